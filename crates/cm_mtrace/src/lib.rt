@@ -3,6 +3,8 @@
 
 mod fault;
 mod item;
+mod line;
+mod step;
 
 pub use fault::TraceFault;
 pub use item::{Entry, Item, Kind, Who};

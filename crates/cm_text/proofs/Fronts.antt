@@ -87,7 +87,14 @@ one_more base text i n d within digits written digit is = (
   digits_value_more base text i within ∙ (λ j. written j * base + sym is j),
 )
 
+-- two numerals behind which no digit stands are one, and so is what stands behind them
+pub same_numeral : (base m n : ℕ) (a b : List ℕ) → 2 ≤ base → base ≤ 16 → m < base ^ 64 → n < base ^ 64 → ¬ BeginsWithDigit base a → ¬ BeginsWithDigit base b → numeral base m ++ a ≡ numeral base n ++ b → (m ≡ n) × (a ≡ b)
+same_numeral base m n a b low high fits fits' na nb e =
+    let is = numeral_is base m low high fits in
+    let is' = numeral_is base n low high fits' in
+    let same = one_front base (numeral base m) (numeral base n) a b is.digits is'.digits na nb e in
+    (sym is.value ∙ ap (digits_value base) same.0 ∙ is'.value, same.1)
+
 -- a numeral with something behind it that is no digit is no numeral
 pub no_numeral : (base m n : ℕ) (rest : List ℕ) → 2 ≤ base → base ≤ 16 → m < base ^ 64 → n < base ^ 64 → ¬ BeginsWithDigit base rest → numeral base m ++ rest ≡ numeral base n → rest ≡ []
-no_numeral base m n rest low high fits fits' none e =
-    (one_front base (numeral base m) (numeral base n) rest [] (numeral_is base m low high fits).digits (numeral_is base n low high fits').digits none (λ no. no) (e ∙ sym (append-nil (numeral base n)))).1
+no_numeral base m n rest low high fits fits' none e = (same_numeral base m n rest [] low high fits fits' none (λ no. no) (e ∙ sym (append-nil (numeral base n)))).1

@@ -8,10 +8,10 @@ use Rattle.std.specs.Str.Parse.{digits_value, digits_value_after}
 use Rattle.std.proofs.lemmas.Bool.{cases_lt, eqb-false}
 use Rattle.std.proofs.lemmas.Fmt.{digits_is_IsNumeral}
 use Rattle.std.proofs.lemmas.Str.{digit_value-digit_char}
-use Rattle.std.proofs.lemmas.Int.Digits.{all_below_base_digits_of, digits_of_step, first_digits_of}
-use Rattle.std.proofs.lemmas.List.{map-append, append-nil}
+use Rattle.std.proofs.lemmas.Int.Digits.{all_below_base_digits_of, digits_of_step, first_digits_of, length-digits_of-le}
+use Rattle.std.proofs.lemmas.List.{map-append, append-nil, length-map}
 use Rattle.std.proofs.lemmas.Nat.{div-mul-add, mod-mul-add}
-use Rattle.std.proofs.Math.Nat.{div-eq_of_lt, pow-zero}
+use Rattle.std.proofs.Math.Nat.{div-eq_of_lt, pow-le-pow_right, pow-zero}
 use Rattle.cm_text.specs.Numeral.{IsDigit, numeral}
 
 -- the text is a numeral with this value
@@ -145,4 +145,16 @@ numeral_of base (c ∷ cs) n low high fits is =
           let alone : cs ≡ [] = no_more cs (omega (arith, is.plain first)) in
           let value : n ≡ 0 = sym is.value ∙ ap (digits_value_after base (0 * base + digit_value c)) alone ∙ omega (arith, zero_is) in
           (λ i. first i ∷ alone i) ∙ sym (ap (numeral base) value ∙ numeral_zero base low)
+    ]
+
+-- a number below the k-th power of the base has at most k digits
+pub numeral_length : (base k n : ℕ) → 2 ≤ base → 0 < k → k ≤ 64 → n < base ^ k → length (numeral base n) ≤ k
+numeral_length base k n low some few fits =
+    elim (cases_lt 0 n) [
+      | inl positive ↦
+          let room : n < base ^ 64 = omega (arith, fits, pow-le-pow_right {n = base} (omega arith) few) in
+          omega (arith, ap length (numeral_digits base n low positive room), length-map (digits_of base n) glyph, length-digits_of-le base k n low fits)
+      | inr none ↦
+          let zero_is : n ≡ 0 = omega arith in
+          omega (arith, ap length (ap (numeral base) zero_is ∙ numeral_zero base low))
     ]

@@ -1,0 +1,6 @@
+pub mod Bad
+pub mod Entries
+pub mod Items
+pub mod LineTexts
+pub mod Stepping
+pub mod Steps
