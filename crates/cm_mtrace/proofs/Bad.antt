@@ -42,7 +42,7 @@ pub first_bad_open : (text : List ℕ) → BeginsTrace (whole_lines text) → (0
 first_bad_open text b why = record { bad = inr (refl, why); first = none_before text (whole_lines text) [] (sym (append-nil (whole_lines text))) b }
 
 -- a line that gives something has at most 80 bytes
-gives_short : (before : ℕ) (line : List ℕ) (given : List Item) → LineGives before line given → length line ≤ 80
+pub gives_short : (before : ℕ) (line : List ℕ) (given : List Item) → LineGives before line given → length line ≤ 80
 gives_short before line given l = by before l
   where
     by : (n : ℕ) → LineGives n line given → length line ≤ 80
@@ -56,7 +56,7 @@ longer_front line after [] more is e = omega arith
 longer_front [] after (c ∷ front) more is e = let same : 10 ≡ c = cc in absurd (is.0 (sym same))
 longer_front (b ∷ line) after (c ∷ front) more is e = let rest : line ++ 10 ∷ after ≡ front ++ more = cc in omega (arith, longer_front line after front more is.1 rest)
 
-whole_text : (lines : List (List ℕ)) → AllByRecursion IsLine lines → AreLines (text_of lines) lines []
+pub whole_text : (lines : List (List ℕ)) → AllByRecursion IsLine lines → AreLines (text_of lines) lines []
 whole_text lines each = record { spelled = sym (append-nil (text_of lines)); each = each; last = tt }
 
 -- A text of whole lines that begin a trace, and behind them a line that gives nothing, however it goes on.

@@ -1,8 +1,9 @@
 -- Where a reader stands in a stream.
-use Rattle.std.specs.Prelude.{◌≡◌, ◌⊎◌, ℕ, ◌+◌, ◌<◌, ◌≤◌, List, ◌++◌, length, ⊤, None}
+use Rattle.std.specs.Prelude.{◌≡◌, ◌⊎◌, ℕ, ◌+◌, ◌-◌, ◌<◌, ◌≤◌, List, ◌++◌, length, take, ⊤, None}
 use Rattle.std.specs.declared.option.Option.{Option}
-use Rattle.cm_mtrace.specs.Trace.{BeginsTrace, IsFirstBad, open_line, whole_lines}
+use Rattle.cm_mtrace.specs.Trace.{BeginsTrace, GiveItems, IsFirstBad, open_line, whole_lines}
 use Rattle.cm_mtrace.specs.declared.fault.TraceFault.{TraceFault}
+use Rattle.cm_mtrace.specs.declared.item.Item.{Item}
 use Rattle.cm_mtrace.specs.declared.fault.TraceFault.TheVariants.{BadLine, Memory}
 
 -- how many whole lines were read, what stands behind the last, and the fault that came
@@ -33,3 +34,8 @@ NamesSeen text Memory = ⊤
 abbrev pub EndsBad : List ℕ → TraceFault → Type 0
 EndsBad text (BadLine line) = IsFirstBad text line
 EndsBad text Memory = ⊥
+
+-- the items of the lines before the one that the fault names
+abbrev pub GivesEarlier : List ℕ → List Item → TraceFault → Type 0
+GivesEarlier text items (BadLine line) = GiveItems (take (line - 1) (whole_lines text)) items
+GivesEarlier text items Memory = ⊤

@@ -1,5 +1,5 @@
 -- What the steps of a reader give: each line by how many lines stand before it.
-use Rattle.std.specs.Prelude.{◌≡◌, ◌≢◌, ℕ, ◌+◌, ◌<◌, ◌≤◌, List, [], ◌∷◌, ◌++◌, ◌⊎◌, codes, decimal, length, None, Some}
+use Rattle.std.specs.Prelude.{◌≡◌, ◌≢◌, ℕ, ◌+◌, ◌<◌, ◌≤◌, List, [], ◌∷◌, ◌++◌, ◌⊎◌, Bool, true, false, codes, decimal, length, None, Some}
 use Rattle.std.specs.Borrow.{Bor}
 use Rattle.std.specs.declared.option.Option.{Option}
 use Rattle.cm_mtrace.specs.declared.step.Step.{Step}
@@ -51,15 +51,28 @@ pub record Reads (before : ℕ) (text : List ℕ) (whole : List (List ℕ)) (tai
   pub counted : lines ≡ before + length whole
   pub given : (given : List Item) × (new ≡ old ++ given) × LinesGive before whole given
 
--- behind so many lines no trace goes on with this text: its first line gives nothing, or it is open and too long
-abbrev pub Spoils : ℕ → List ℕ → Type 0
-Spoils lines tail = ((line : List ℕ) × (after : List ℕ) × IsLine line × (tail ≡ line ++ codes "\n" ++ after) × ((given : List Item) → ¬ LineGives lines line given))
-    ⊎ (IsLine tail × (80 < length tail))
+-- behind so many lines the first line of this text gives nothing
+abbrev pub BadNext : ℕ → List ℕ → Type 0
+BadNext lines tail = (line : List ℕ) × (after : List ℕ) × IsLine line × (tail ≡ line ++ codes "\n" ++ after) × ((given : List Item) → ¬ LineGives lines line given)
 
--- all whole lines were read, up to an open one; or up to what spoils the trace
+-- all whole lines were read, up to an open one; or all up to one that gives nothing
 abbrev pub Ends : ℕ → List ℕ → List Item → List Item → ℕ → Option (Bor (List ℕ)) → Type 0
 Ends before text old new lines (Some left) = (whole : List (List ℕ)) × Reads before text whole left.now old new lines × IsLine left.now
-Ends before text old new lines None = (whole : List (List ℕ)) × (tail : List ℕ) × Reads before text whole tail old new lines × Spoils lines tail
+Ends before text old new lines None = (whole : List (List ℕ)) × (tail : List ℕ) × Reads before text whole tail old new lines × BadNext lines tail
+
+-- no trace goes on with this text: its first line gives nothing, or is open and too long
+abbrev pub Spoils : ℕ → List ℕ → Type 0
+Spoils lines tail = BadNext lines tail ⊎ (IsLine tail × (80 < length tail))
+
+-- all whole lines were read up to an open one, which is kept; or all up to what spoils the trace
+abbrev pub Reaches : ℕ → List ℕ → List Item → List Item → ℕ → Bool → List ℕ → Type 0
+Reaches before text old new lines true left = (whole : List (List ℕ)) × Reads before text whole left old new lines × IsLine left × (length left ≤ 80)
+Reaches before text old new lines false left = (whole : List (List ℕ)) × (tail : List ℕ) × Reads before text whole tail old new lines × Spoils lines tail
+
+-- what a reader keeps of an open line
+pub record IsKept (left : List ℕ) : Type 0 where
+  pub line : IsLine left
+  pub short : length left ≤ 80
 
 -- a mark and a kind, each behind a space, and what stands behind them
 abbrev pub with_marks : Who → Kind → List ℕ → List ℕ

@@ -4,7 +4,10 @@
 mod fault;
 mod item;
 mod line;
+mod piece;
+mod reader;
 mod step;
 
 pub use fault::TraceFault;
 pub use item::{Entry, Item, Kind, Who};
+pub use reader::Reader;

@@ -1,5 +1,5 @@
 // The lines of a text, one after another.
-ghost use Rattle.std.specs.Prelude.{◌≡◌, ◌-◌, ◌+◌, ◌^◌, ◌<◌, ◌≤◌, ℕ, List, length, IfOk};
+ghost use Rattle.std.specs.Prelude.{◌≡◌, ◌-◌, ◌+◌, ◌^◌, ◌<◌, ◌≤◌, ℕ, List, length, IfOk, MatchOption};
 ghost use Rattle.cm_mtrace.specs.Reading.{Ends, SectionSteps, Steps};
 ghost use Rattle.cm_mtrace.specs.declared.item.Item.{Item};
 
@@ -10,6 +10,7 @@ use std::alloc::Global;
 
 /// What a step over a text finds at its front: a line that fits there, with what stands behind it; no whole line; or a line
 /// with which no trace goes on.
+#[derive(Clone, Copy)]
 pub enum Step<'a> {
     Read(&'a [u8]),
     Open,
@@ -59,9 +60,9 @@ fn item_step<'a>(alloc: Global, text: &'a [u8], to: &mut Vec<Item>) -> Result<St
     Ok(Step::Read(after))
 }
 
-// Steps over a line behind so many others.
+/// Steps over a line behind so many others, and adds its item.
 #[inline(always)]
-fn next_step<'a>(
+pub fn next_step<'a>(
     alloc: Global,
     before: u64,
     text: &'a [u8],
@@ -78,6 +79,7 @@ fn next_step<'a>(
 
 /// Where a text was read to: so many lines now begin a trace, and the last of them is open; or none is, and the next line is
 /// bad.
+#[derive(Clone, Copy)]
 pub struct Ending<'a> {
     pub lines: u64,
     pub left: Option<&'a [u8]>,
@@ -92,7 +94,7 @@ pub fn read_lines<'a>(
 ) -> Result<Ending<'a>, NoMemory>
     requires { before + length text.now < 2 ^ 64 - 1 }
     ensures ends { IfOk result (λ end. Ends before text.now to.old.items to.new.items end.lines end.left) }
-    ensures counted { IfOk result (λ end. end.lines ≤ before + length text.now) }
+    ensures counted { IfOk result (λ end. MatchOption end.left (end.lines ≤ before + length text.now) (λ left. end.lines + length left.now ≤ before + length text.now)) }
 {
     let mut rest = text;
     let mut lines = before;
