@@ -5,3 +5,4 @@ pub mod LineTexts
 pub mod Pieces
 pub mod Stepping
 pub mod Steps
+pub mod Streams

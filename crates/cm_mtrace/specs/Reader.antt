@@ -35,7 +35,8 @@ abbrev pub EndsBad : List ℕ → TraceFault → Type 0
 EndsBad text (BadLine line) = IsFirstBad text line
 EndsBad text Memory = ⊥
 
--- the items of the lines before the one that the fault names
-abbrev pub GivesEarlier : List ℕ → List Item → TraceFault → Type 0
-GivesEarlier text items (BadLine line) = GiveItems (take (line - 1) (whole_lines text)) items
-GivesEarlier text items Memory = ⊤
+-- the items of the lines before the one that the fault names were given
+abbrev pub GaveEarlier : Progress → List ℕ → List Item → List Item → TraceFault → Type 0
+GaveEarlier p piece old new (BadLine line) =
+    p.fault ≡ None → (given : List Item) × (new ≡ old ++ given) × ((text : List ℕ) (items : List Item) → StandsFor p text → GiveItems (whole_lines text) items → GiveItems (take (line - 1) (whole_lines (text ++ piece))) (items ++ given))
+GaveEarlier p piece old new Memory = ⊤

@@ -25,12 +25,14 @@ impl Model for Reader {
 
     ghost view = { λ r. record { lines = r.lines; left = r.left.items; fault = r.fault } };
 
-    ghost invariant = { λ r. IsKept r.left.items };
+    ghost use Rattle.std.specs.Prelude.{◌<◌, ◌-◌, ◌^◌};
+
+    ghost invariant = { λ r. (r.lines < 2 ^ 64 - 1) × IsKept r.left.items };
 }
 
 impl Reader {
     ghost use Rattle.std.specs.Prelude.{[]};
-    ghost use Rattle.cm_mtrace.specs.Reader.{EndsBad, GivesEarlier, NamesFirst, NamesSeen, StandsFor};
+    ghost use Rattle.cm_mtrace.specs.Reader.{EndsBad, GaveEarlier, NamesFirst, NamesSeen, StandsFor};
 
     /// A reader that stands for the empty stream.
     pub fn new(alloc: Global) -> Reader
@@ -60,6 +62,7 @@ impl Reader {
         // A line is bad, whatever follows, and it is seen to be; the items before it were given.
         ensures first { IfErr result (λ f. (text : List ℕ) → StandsFor self.old text → NamesFirst (text ++ piece.now) f) }
         ensures seen { IfErr result (λ f. (text : List ℕ) → StandsFor self.old text → NamesSeen (text ++ piece.now) f) }
+        ensures earlier { IfErr result (GaveEarlier self.old piece.now to.old.items to.new.items) }
 
         ensures fault { IfErr result (λ f. self.new.fault ≡ Some f) }
         ensures again { IfSome self.old.fault (λ f. (result ≡ Err f) × (to.new.items ≡ to.old.items)) }
@@ -100,8 +103,11 @@ impl Reader {
         if let Some(fault) = self.fault {
             return Err(fault);
         }
-        if !self.left.is_empty() || self.lines == 0 {
-            let line = self.lines.saturating_add(1);
+        let line = self.lines + 1;
+        if !self.left.is_empty() {
+            return self.fail(TraceFault::BadLine { line });
+        }
+        if self.lines == 0 {
             return self.fail(TraceFault::BadLine { line });
         }
         Ok(())
