@@ -1,13 +1,13 @@
 -- Which line of a text is the first bad one.
-use Rattle.std.proofs.Common.{arith, ◌≡◌, ◌≢◌, ◌⊎◌, ℕ, zero, suc, ◌+◌, ◌-◌, ◌<◌, ◌≤◌, List, [], ◌∷◌, ◌++◌, codes, length, take, drop, map, ap, sym, subst, refl, ◌∙◌, inl, inr, append_assoc, length-append}
+use Rattle.std.proofs.Common.{arith, ◌≡◌, ◌⊎◌, ℕ, zero, suc, ◌+◌, ◌<◌, ◌≤◌, List, [], ◌∷◌, ◌++◌, codes, length, take, drop, map, ap, sym, subst, refl, ◌∙◌, inl, inr, append_assoc, length-append}
 use Rattle.std.specs.List.{All, AllByRecursion}
 use Rattle.std.proofs.lemmas.Bool.{cases_lt}
-use Rattle.std.proofs.lemmas.List.{append-nil, take_all, take_at, take-append-drop, take-append-le, take-take}
+use Rattle.std.proofs.lemmas.List.{append-nil, take_at, take-append-drop, take-append-le}
 use Rattle.cm_mtrace.proofs.Items.{item_length, trace_each}
 use Rattle.cm_mtrace.proofs.LineTexts.{line_before, lines_are, lines_on, text_lines}
-use Rattle.cm_mtrace.proofs.Steps.{begins_gives, begins_not, gives_begins}
+use Rattle.cm_mtrace.proofs.Steps.{begins_not}
 use Rattle.cm_mtrace.specs.Reading.{AreLines, IsLine, LineGives}
-use Rattle.cm_mtrace.specs.Trace.{BeginsTrace, GiveItems, IsBadLine, IsFirstBad, IsItem, IsTrace, Section, first_line, items_of, line_of, open_line, text_of, trace_lines, whole_lines}
+use Rattle.cm_mtrace.specs.Trace.{BeginsTrace, GiveItems, IsBadLine, IsFirstBad, IsItem, IsTrace, Section, items_of, line_of, open_line, text_of, trace_lines, whole_lines}
 use Rattle.cm_mtrace.specs.declared.item.Item.{Item}
 use Rattle.cm_mtrace.specs.declared.item.Item.TheVariants as items
 

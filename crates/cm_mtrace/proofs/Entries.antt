@@ -1,5 +1,5 @@
 -- The line of an entry, part by part.
-use Rattle.std.proofs.Common.{arith, ◌≡◌, ◌≢◌, ℕ, ◌+◌, ◌^◌, ◌<◌, ◌≤◌, List, [], ◌∷◌, ◌++◌, codes, decimal, length, ap, sym, subst, refl, ◌∙◌, append_assoc}
+use Rattle.std.proofs.Common.{arith, ◌≡◌, ℕ, ◌^◌, ◌<◌, ◌≤◌, List, ◌∷◌, ◌++◌, codes, decimal, sym, ◌∙◌, append_assoc}
 use Rattle.cm_text.specs.Numeral.{BeginsWithDigit, hexadecimal}
 use Rattle.cm_text.proofs.Fronts.{same_numeral}
 use Rattle.cm_mtrace.specs.Reading.{with_marks, with_size}

@@ -1,14 +1,13 @@
 -- The line of an item has no newline and at most 80 bytes.
-use Rattle.std.proofs.Common.{arith, ◌≡◌, ◌≢◌, ℕ, ◌+◌, ◌^◌, ◌<◌, ◌≤◌, List, [], ◌∷◌, ◌++◌, codes, decimal, length, map, ap, sym, subst, refl, ◌∙◌, length-append}
+use Rattle.std.proofs.Common.{arith, ◌≡◌, ◌≢◌, ℕ, ◌+◌, ◌^◌, ◌<◌, ◌≤◌, List, [], ◌∷◌, ◌++◌, codes, decimal, length, map, ap, refl, length-append}
 use Rattle.std.specs.Char.{digit_value}
-use Rattle.std.specs.List.{All, AllByRecursion, join_with_byte}
+use Rattle.std.specs.List.{All, AllByRecursion}
 use Rattle.std.proofs.lemmas.List.Elements.{recursion_from_All}
 use Rattle.cm_text.specs.Numeral.{IsDigit, hexadecimal, numeral}
 use Rattle.cm_text.proofs.Numerals.{numeral_is, numeral_length}
 use Rattle.cm_mtrace.proofs.LineTexts.{all_append}
 use Rattle.cm_mtrace.specs.Reading.{IsLine}
-use Rattle.cm_mtrace.specs.Trace.{IsEntry, IsItem, IsNameByte, IsSectionName, Section, fields_of, items_of, kind_text, line_of, mark_text, trace_lines}
-use Rattle.cm_mtrace.specs.declared.item.Entry.{Entry}
+use Rattle.cm_mtrace.specs.Trace.{IsItem, IsNameByte, Section, items_of, kind_text, line_of, mark_text, trace_lines}
 use Rattle.cm_mtrace.specs.declared.item.Item.{Item}
 use Rattle.cm_mtrace.specs.declared.item.Item.TheVariants as items
 use Rattle.cm_mtrace.specs.declared.item.Kind.{Kind}

@@ -1,5 +1,5 @@
 -- A stream, read piece by piece.
-use Rattle.std.proofs.Common.{arith, ◌≡◌, ◌⊎◌, ℕ, ◌+◌, ◌-◌, ◌<◌, ◌≤◌, Bool, true, false, List, [], ◌∷◌, ◌++◌, codes, length, take, ap, sym, subst, refl, ◌∙◌, inl, inr, append_assoc, length-append, MatchBool}
+use Rattle.std.proofs.Common.{arith, ◌≡◌, ℕ, ◌+◌, ◌<◌, ◌≤◌, Bool, true, false, List, [], ◌∷◌, ◌++◌, codes, length, take, ap, sym, subst, refl, ◌∙◌, inl, inr, append_assoc, length-append, MatchBool}
 use Rattle.std.specs.List.{AllByRecursion}
 use Rattle.std.proofs.lemmas.List.{append-nil, take_at}
 use Rattle.std.proofs.lemmas.List.Concat.{flat_map-append}
@@ -7,8 +7,8 @@ use Rattle.cm_mtrace.proofs.Bad.{gives_short, refused_open, refused_whole, whole
 use Rattle.cm_mtrace.proofs.LineTexts.{all_append, line_before, lines_are, lines_on, no_lines, text_lines}
 use Rattle.cm_mtrace.proofs.Stepping.{reads_none, reads_push}
 use Rattle.cm_mtrace.specs.Reader.{NamesFirst, NamesSeen}
-use Rattle.cm_mtrace.specs.Reading.{AreLines, BadNext, IsKept, IsLine, LineGives, LinesGive, Reaches, Reads, Spoils}
-use Rattle.cm_mtrace.specs.Trace.{BeginsTrace, IsFirstBad, open_line, text_of, whole_lines}
+use Rattle.cm_mtrace.specs.Reading.{AreLines, BadNext, IsLine, LineGives, LinesGive, Reaches, Reads, Spoils}
+use Rattle.cm_mtrace.specs.Trace.{BeginsTrace, open_line, text_of, whole_lines}
 use Rattle.cm_mtrace.specs.declared.fault.TraceFault.TheVariants.{BadLine}
 use Rattle.cm_mtrace.specs.declared.item.Item.{Item}
 

@@ -1,13 +1,12 @@
 -- What a step over a text gives.
-use Rattle.std.proofs.Common.{arith, ◌≡◌, ◌≢◌, ◌⊎◌, ℕ, ◌+◌, ◌<◌, ◌≤◌, List, [], ◌∷◌, ◌++◌, codes, length, ap, sym, subst, refl, ◌∙◌, inl, inr, append_assoc, length-append, Result, Ok, Err, IfOk}
-use Rattle.std.specs.List.{AllByRecursion}
+use Rattle.std.proofs.Common.{arith, ◌≡◌, ◌≢◌, ℕ, ◌+◌, ◌<◌, ◌≤◌, List, [], ◌∷◌, ◌++◌, codes, length, ap, sym, subst, refl, ◌∙◌, inl, inr, append_assoc, length-append, Result, Ok, Err, IfOk}
 use Rattle.std.proofs.lemmas.Bool.{cases_lt}
 use Rattle.std.proofs.lemmas.List.{append-nil}
 use Rattle.std.proofs.lemmas.List.Concat.{flat_map-append}
 use Rattle.cm_mtrace.proofs.LineTexts.{all_append}
 use Rattle.cm_mtrace.proofs.Steps.{lines_give_push}
 use Rattle.cm_mtrace.proofs.Items.{item_line}
-use Rattle.cm_mtrace.specs.Reading.{AreLines, IsLine, LineGives, LinesGive, Reads, SectionSteps, Steps}
+use Rattle.cm_mtrace.specs.Reading.{IsLine, LineGives, Reads, SectionSteps, Steps}
 use Rattle.cm_mtrace.specs.Trace.{IsEntry, IsItem, IsSectionName, first_line, line_of, text_of}
 use Rattle.cm_mtrace.specs.declared.item.Entry.{Entry}
 use Rattle.cm_mtrace.specs.declared.item.Item.{Item}

@@ -1,10 +1,10 @@
 -- One more line of a trace.
-use Rattle.std.proofs.Common.{arith, ◌≡◌, ◌≢◌, ℕ, zero, suc, ◌+◌, ◌<◌, ◌≤◌, List, [], ◌∷◌, ◌++◌, length, map, take, ap, sym, subst, refl, ◌∙◌, append_assoc, length-append}
+use Rattle.std.proofs.Common.{arith, ◌≡◌, ℕ, zero, suc, ◌+◌, List, [], ◌∷◌, ◌++◌, length, map, take, ap, sym, subst, refl, ◌∙◌, append_assoc, length-append}
 use Rattle.std.specs.List.{All, AllByRecursion}
 use Rattle.std.proofs.lemmas.List.{append-nil, map-append, take-map, take_at}
 use Rattle.std.proofs.lemmas.List.Elements.{All-push, All-take, recursion_from_All}
 use Rattle.cm_mtrace.specs.Reading.{LineGives, LinesGive}
-use Rattle.cm_mtrace.specs.Trace.{BeginsTrace, GiveItems, IsItem, IsSectionName, Section, SpellItems, first_line, items_of, line_of, trace_lines}
+use Rattle.cm_mtrace.specs.Trace.{BeginsTrace, GiveItems, IsItem, IsSectionName, Section, items_of, line_of, trace_lines}
 use Rattle.cm_mtrace.specs.declared.item.Entry.{Entry}
 use Rattle.cm_mtrace.specs.declared.item.Item.{Item}
 use Rattle.cm_mtrace.specs.declared.item.Item.TheVariants as items
@@ -132,12 +132,14 @@ begins_gives [] b = ([], record { spelled = refl; valid = λ k d h. absurd (omeg
 begins_gives (first ∷ rest) b =
     let its = items_of b.0 in
     let tail = same_tail _ _ _ _ b.3 in
-    let front : rest ≡ map line_of (take (length rest) its) = sym (ap (take (length rest)) tail ∙ take_at rest b.1 (length rest) refl) ∙ take-map line_of (length rest) its in
-    (take (length rest) its, record {
-      spelled = (sym (same_head _ _ _ _ b.3), front);
-      valid = All-take IsItem (length rest) its b.2;
-      sections = sectioned (take (length rest) its) (starts_take (length rest) its (starts_items_of b.0));
-    })
+    let front : rest ≡ map line_of (take (length rest) its) = sym (ap (take (length rest)) tail ∙ take_at rest b.1 (length rest) refl) ∙ take-map line_of (length rest) its in (
+      take (length rest) its,
+      record {
+        spelled = (sym (same_head _ _ _ _ b.3), front);
+        valid = All-take IsItem (length rest) its b.2;
+        sections = sectioned (take (length rest) its) (starts_take (length rest) its (starts_items_of b.0));
+      },
+    )
 
 -- and lines that give items begin a trace
 pub gives_begins : (lines : List (List ℕ)) (its : List Item) → GiveItems lines its → BeginsTrace lines

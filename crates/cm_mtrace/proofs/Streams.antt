@@ -1,14 +1,13 @@
 -- Where a reader stands behind a piece more.
-use Rattle.std.proofs.Common.{arith, ◌≡◌, ℕ, ◌+◌, ◌-◌, ◌<◌, ◌≤◌, Bool, true, false, List, [], ◌∷◌, ◌++◌, All, None, length, take, ap, sym, subst, refl, ◌∙◌, inl, inr, eqb, eqb-true, append_assoc, length-append}
-use Rattle.std.specs.List.{AllByRecursion}
+use Rattle.std.proofs.Common.{arith, ◌≡◌, ℕ, ◌+◌, ◌-◌, ◌<◌, true, false, List, [], ◌∷◌, ◌++◌, All, None, length, take, ap, sym, subst, refl, ◌∙◌, inl, inr, eqb, eqb-true, append_assoc, length-append}
 use Rattle.std.proofs.lemmas.List.Concat.{flat_map-append}
 use Rattle.std.proofs.lemmas.Bool.{cases_lt, eqb-false}
 use Rattle.std.proofs.lemmas.List.Elements.{All-append, All-from_recursion}
 use Rattle.cm_mtrace.proofs.LineTexts.{all_append, lines_are, lines_on, text_lines}
 use Rattle.cm_mtrace.proofs.Pieces.{IsSpoiled, spoiled}
 use Rattle.cm_mtrace.proofs.Steps.{begins_gives, gives_begins, gives_on}
-use Rattle.cm_mtrace.specs.Reader.{NamesFirst, NamesSeen, Progress, StandsFor}
-use Rattle.cm_mtrace.specs.Reading.{AreLines, LineGives, LinesGive, Reaches, Reads, Spoils}
+use Rattle.cm_mtrace.specs.Reader.{Progress, StandsFor}
+use Rattle.cm_mtrace.specs.Reading.{AreLines, LineGives, LinesGive, Reaches, Spoils}
 use Rattle.cm_mtrace.specs.Trace.{BeginsTrace, GiveItems, IsItem, open_line, text_of, whole_lines}
 use Rattle.cm_mtrace.specs.declared.item.Item.{Item}
 use Rattle.cm_mtrace.specs.declared.item.Item.TheVariants as items

@@ -11,3 +11,6 @@ mod step;
 pub use fault::TraceFault;
 pub use item::{Entry, Item, Kind, Who};
 pub use reader::Reader;
+
+#[cfg(test)]
+mod tests;

@@ -1,7 +1,7 @@
 // A trace from a stream.
 ghost use Rattle.std.specs.Prelude.{◌≡◌, ℕ, List, ◌++◌, ◌+◌, ◌-◌, ◌^◌, ◌<◌, ◌≤◌, All, length, take, IfErr, IfOk, IfSome, OnOk};
 ghost use Rattle.cm_mtrace.specs.declared.item.Item.{Item};
-ghost use Rattle.cm_mtrace.specs.Trace.{GiveItems, IsBadLine, IsItem, whole_lines};
+ghost use Rattle.cm_mtrace.specs.Trace.{GiveItems, IsBadLine, IsItem, IsTrace, Section, items_of, whole_lines};
 
 use crate::piece::read_piece;
 use crate::{Item, TraceFault};
@@ -57,7 +57,7 @@ impl Reader {
         ensures stands { OnOk result ((text : List ℕ) → StandsFor self.old text → StandsFor self.new (text ++ piece.now)) }
         ensures given { OnOk result ((given : List Item) × (to.new.items ≡ to.old.items ++ given) × All IsItem given
             × ((text : List ℕ) (items : List Item) → StandsFor self.old text → GiveItems (whole_lines text) items
-                → GiveItems (whole_lines (text ++ piece.now)) (items ++ given))) }
+            → GiveItems (whole_lines (text ++ piece.now)) (items ++ given))) }
 
         // A line is bad, whatever follows, and it is seen to be; the items before it were given.
         ensures first { IfErr result (λ f. (text : List ℕ) → StandsFor self.old text → NamesFirst (text ++ piece.now) f) }
@@ -93,9 +93,12 @@ impl Reader {
         Err(fault)
     }
 
-    /// Ends the stream. A fault that came before comes again.
+    /// Ends the stream: what it stands for is a trace of the items that were given, or has a bad line. A fault that came before
+    /// comes again.
     pub fn finish(&mut self) -> Result<(), TraceFault>
-        ensures ok { OnOk result ((text : List ℕ) → StandsFor self.old text → (line : ℕ) → ¬ IsBadLine text line) }
+        ensures trace { OnOk result ((text : List ℕ) (items : List Item) → StandsFor self.old text → GiveItems (whole_lines text) items
+            → (sections : List Section) × IsTrace sections text × (items ≡ items_of sections)) }
+        ensures none_bad { OnOk result ((text : List ℕ) → StandsFor self.old text → (line : ℕ) → ¬ IsBadLine text line) }
         ensures bad { IfErr result (λ f. (text : List ℕ) → StandsFor self.old text → EndsBad text f) }
         ensures fault { IfErr result (λ f. self.new.fault ≡ Some f) }
         ensures again { IfSome self.old.fault (λ f. result ≡ Err f) }

@@ -32,11 +32,7 @@ fn first_step(text: &[u8]) -> Step<'_>
 }
 
 // Steps over the first line of a section.
-fn section_step<'a>(
-    alloc: Global,
-    text: &'a [u8],
-    to: &mut Vec<Item>,
-) -> Result<Step<'a>, NoMemory>
+fn section_step<'a>(alloc: Global, text: &'a [u8], to: &mut Vec<Item>) -> Result<Step<'a>, NoMemory>
     ensures { IfOk result (SectionSteps text.now to.old.items to.new.items) }
 {
     let Some((line, after)) = cut(text) else {

@@ -1,7 +1,6 @@
-use Rattle.std.proofs.Common.{arith, ◌≡◌, ◌++◌, List, ℕ, codes, subst, sym}
+use Rattle.std.proofs.Common.{arith, ◌++◌}
 use Rattle.cm_text.specs.Numeral.{hexadecimal}
-use Rattle.cm_mtrace.specs.declared.item.Entry.{Entry}
-use Rattle.cm_mtrace.specs.Reading.{with_marks, with_size}
+use Rattle.cm_mtrace.specs.Reading.{with_size}
 use Rattle.cm_mtrace.proofs.Entries.{after_core, after_marks, after_addr, after_size}
 use Rattle.cm_mtrace.proofs.line.entry_at.Goals as goal
 

@@ -1,4 +1,4 @@
-use Rattle.std.proofs.Common.{◌++◌, codes, sym, subst, ◌∙◌}
+use Rattle.std.proofs.Common.{◌++◌, sym, subst, ◌∙◌}
 use Rattle.cm_mtrace.specs.Reading.{IsLine, Steps}
 use Rattle.cm_mtrace.proofs.LineTexts.{all_append}
 use Rattle.cm_mtrace.proofs.Pieces.{not_open, reads_one}

@@ -1,4 +1,4 @@
-use Rattle.std.proofs.Common.{◌≡◌, ◌≤◌, ◌<◌, ◌++◌, [], length, subst, MatchBool}
+use Rattle.std.proofs.Common.{◌≡◌, ◌≤◌, ◌<◌, ◌++◌, length, subst, MatchBool}
 use Rattle.cm_mtrace.specs.Reading.{Ends}
 use Rattle.cm_mtrace.proofs.Pieces.{reaches_kept}
 use Rattle.cm_mtrace.proofs.piece.read_on.Goals as goal

@@ -1,5 +1,5 @@
-use Rattle.std.proofs.Common.{arith, ◌≡◌, ◌≤◌, ◌<◌, ◌+◌, ◌++◌, ◌∷◌, [], codes, length, ap, sym, subst, ◌∙◌, inl, length-append}
-use Rattle.cm_mtrace.specs.Reading.{BadNext, IsLine, Reads, Reaches, Spoils}
+use Rattle.std.proofs.Common.{arith, ◌<◌, ◌+◌, ◌++◌, ◌∷◌, [], codes, length, sym, subst, inl, length-append}
+use Rattle.cm_mtrace.specs.Reading.{BadNext, Reads, Reaches}
 use Rattle.cm_mtrace.proofs.LineTexts.{all_append}
 use Rattle.cm_mtrace.proofs.Pieces.{bad_on, ends_line, long_bad, reaches_held, reaches_on}
 use Rattle.cm_mtrace.proofs.Stepping.{reads_none}

@@ -1,4 +1,4 @@
-use Rattle.std.proofs.Common.{arith, ◌∷◌, ◌++◌, [], sym, subst}
+use Rattle.std.proofs.Common.{arith, ◌∷◌, ◌++◌, [], subst}
 use Rattle.cm_mtrace.specs.Reading.{Steps}
 use Rattle.cm_mtrace.proofs.Stepping.{reads_push, shorter}
 use Rattle.cm_mtrace.proofs.step.read_lines.Goals as goal

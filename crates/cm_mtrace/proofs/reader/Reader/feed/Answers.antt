@@ -1,4 +1,4 @@
-use Rattle.std.proofs.Common.{◌≡◌, ◌+◌, ◌++◌, sym, subst}
+use Rattle.std.proofs.Common.{◌+◌, ◌++◌, sym, subst}
 use Rattle.cm_mtrace.specs.Reader.{NamesFirst, NamesSeen, Progress, StandsFor}
 use Rattle.cm_mtrace.specs.declared.fault.TraceFault.TheVariants.{BadLine}
 use Rattle.cm_mtrace.proofs.Streams.{earlier_on, given_on, spoiled_on, stands_on, valid_items}
@@ -18,9 +18,13 @@ returns-then-reached-clause-given c =
     let i = c.self.inside in
     let p : Progress = record { lines = i.lines; left = i.left.items; fault = i.fault } in
     let r = rw c.if-reached.true at c.in-Ok.ensures.reaches in
-    let g = r.1.given in
-    (g.0, g.1, valid_items i.lines r.0 g.0 g.2, λ text items stands give.
-    given_on p c.args.piece.now c.args.to.now.items c.read_piece.new.to.items c.in-Ok.reached.lines c.read_piece.new.left.items r text items (subst (λ q. StandsFor q text) (sym c.self.view_is) stands) give)
+    let g = r.1.given in (
+      g.0,
+      g.1,
+      valid_items i.lines r.0 g.0 g.2,
+      λ text items stands give.
+          given_on p c.args.piece.now c.args.to.now.items c.read_piece.new.to.items c.in-Ok.reached.lines c.read_piece.new.left.items r text items (subst (λ q. StandsFor q text) (sym c.self.view_is) stands) give,
+    )
 
 pub returns-else-reached-clause-first : goal.returns-else-reached-clause-first
 returns-else-reached-clause-first c =
@@ -49,5 +53,9 @@ returns-else-reached-clause-earlier c =
     let r = rw c.if-reached.false at c.in-Ok.ensures.reaches in
     let g = r.2.given in
     rw c.fail.ensures.result
-    (λ none. (g.0, g.1, λ text items stands give.
-    earlier_on p c.args.piece.now c.args.to.now.items c.read_piece.new.to.items c.in-Ok.reached.lines c.read_piece.new.left.items r text items (subst (λ q. StandsFor q text) (sym c.self.view_is) stands) give))
+    (λ none. (
+      g.0,
+      g.1,
+      λ text items stands give.
+          earlier_on p c.args.piece.now c.args.to.now.items c.read_piece.new.to.items c.in-Ok.reached.lines c.read_piece.new.left.items r text items (subst (λ q. StandsFor q text) (sym c.self.view_is) stands) give,
+    ))
