@@ -12,3 +12,6 @@ pub use mem_shelf::{MemFile, MemShelf};
 pub use mem_sink::{MemSink, PutFail};
 pub use shelf::Shelf;
 pub use sink::Sink;
+
+#[cfg(test)]
+mod tests;
