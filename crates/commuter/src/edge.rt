@@ -122,3 +122,6 @@ impl<W: Write> Sink for StdSink<W> {
         Ok(())
     }
 }
+
+#[cfg(test)]
+mod tests;
