@@ -8,7 +8,7 @@ mod shelf;
 mod sink;
 
 pub use failed::Failed;
-pub use mem_shelf::{MemFile, MemShelf};
+pub use mem_shelf::{MemFile, MemShelf, names_differ};
 pub use mem_sink::{MemSink, PutFail};
 pub use shelf::Shelf;
 pub use sink::Sink;

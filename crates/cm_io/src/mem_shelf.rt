@@ -1,5 +1,5 @@
-ghost use Rattle.std.specs.Prelude.{◌≡◌, ◌≢◌, ◌==◌, ◌+◌, ◌-◌, ◌^◌, ◌<◌, ◌≤◌, ℕ, List, [], Some, length, drop, min, IsTrue, IfOk, OnErr};
-ghost use Rattle.std.specs.List.{AllPairs};
+ghost use Rattle.std.specs.Prelude.{◌≡◌, ◌≢◌, ◌↔◌, ◌==◌, ◌+◌, ◌-◌, ◌^◌, ◌<◌, ◌≤◌, ℕ, List, [], Some, length, drop, min, IsTrue, IsSome, IsOk, IfOk, OnErr};
+ghost use Rattle.std.specs.List.{AllPairs, Any};
 ghost use Rattle.std.specs.Option.{option_map};
 ghost use Rattle.std.specs.Result.{result_ok};
 ghost use Rattle.cm_io.specs.Causes.{Rose};
@@ -36,6 +36,24 @@ impl Model for MemShelf {
     ghost view = { λ s. record { files = s.files; most = s.most; fails = s.fails; calls = s.calls; missing = s.missing } };
 
     ghost invariant = { λ s. 1 ≤ s.most };
+}
+
+/// Whether no two of the files have the same name, which a shelf asks for.
+pub fn names_differ(files: &[MemFile]) -> bool
+    ensures { IsTrue result ↔ AllPairs (λ a b. a.name ≢ b.name) files.now }
+{
+    for (at, file) in files.iter().enumerate() {
+        if has_name(&files[..at], file.name.as_str()) {
+            return false;
+        }
+    }
+    true
+}
+
+fn has_name(files: &[MemFile], name: &str) -> bool
+    ensures { IsTrue result ↔ Any (λ file. file.name ≡ name.now) files.now }
+{
+    files.iter().any(|file| file.name.as_str() == name)
 }
 
 impl MemShelf {
@@ -110,6 +128,9 @@ impl Shelf for MemShelf {
         // exactly what it answers, and what it is afterwards
         ensures answer { result_ok result ≡ given_of self.old name.now from (length buf.old) }
         ensures after { self.new ≡ after_fetch self.old name.now }
+
+        // with no failing calls, a name that it holds
+        ensures finds { self.old.fails ≡ [] → IsSome (bytes_of self.old.files name.now) → IsOk result }
         ensures quiet { self.old.fails ≡ [] → IsQuiet self.new }
     {
         let fails = is_next_named(self.fails.as_slice(), self.calls);

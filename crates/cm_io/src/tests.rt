@@ -6,15 +6,19 @@ use cm_model::{List, Name, NoMemory};
 use std::alloc::Global;
 use std::test::Fail;
 
+fn file(alloc: Global, name: &str, bytes: &[u8]) -> Result<MemFile, NoMemory> {
+    Ok(MemFile {
+        name: Name::from_str(alloc, name)?,
+        bytes: List::from_slice(alloc, bytes)?,
+    })
+}
+
 // A shelf's files, of which there is one.
 fn letters(alloc: Global) -> Result<List<MemFile>, NoMemory>
     ensures { IfOk result (λ files. AllPairs (λ a b. a.name ≢ b.name) files) }
 {
     let mut files = List::new(alloc);
-    files.push(MemFile {
-        name: Name::from_str(alloc, "letters")?,
-        bytes: List::from_slice(alloc, b"abcdefghijklmnopqrst")?,
-    })?;
+    files.push(file(alloc, "letters", b"abcdefghijklmnopqrst")?)?;
     Ok(files)
 }
 
@@ -49,20 +53,34 @@ fn a_fetch_gives_what_there_is_and_fits(rt: HostRuntime) -> Result<(), Fail> {
 #[test]
 fn named_fetches_and_missing_names_fail(rt: HostRuntime) -> Result<(), Fail> {
     let fails = List::from_slice(rt.alloc(), &[2, 5])?;
-    let mut shelf = MemShelf::new(letters(rt.alloc())?, 7, fails);
+    let mut files = letters(rt.alloc())?;
+    files.push(file(rt.alloc(), "empty", b"")?)?;
+    assert!(rt; names_differ(files.as_slice()));
+    let mut shelf = MemShelf::new(files, 7, fails);
     let rows = [
         ("letters", Ok(7)),
         ("letters", Err(Failed)),
         ("letters", Ok(7)),
         ("letter", Err(Failed)),
-        ("letters", Err(Failed)),
+        ("letter", Err(Failed)),
         ("", Err(Failed)),
+        ("empty", Ok(0)),
         ("letters", Ok(7)),
     ];
     let mut buf = [0; 16];
     for (name, want) in rows {
         assert_eq!(rt; shelf.fetch(name, 0, &mut buf), want);
     }
+    Ok(())
+}
+
+#[test]
+fn equal_names_are_found(rt: HostRuntime) -> Result<(), Fail> {
+    let mut files = letters(rt.alloc())?;
+    files.push(file(rt.alloc(), "letter", b"")?)?;
+    assert!(rt; names_differ(files.as_slice()));
+    files.push(file(rt.alloc(), "letters", b"")?)?;
+    assert!(rt; !names_differ(files.as_slice()));
     Ok(())
 }
 
