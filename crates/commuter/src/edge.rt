@@ -1,5 +1,9 @@
 // The machine's files and streams.
-ghost use Rattle.std.specs.Prelude.{◌≡◌, ◌≤◌, IfOk, None, length};
+ghost use Rattle.std.specs.Prelude.{◌≡◌, ◌≤◌, ℕ, List, [], IfOk, IsOk, OnErr, None, is_ok, length, if◌then◌else◌};
+ghost use Rattle.std.specs.declared.option.Option.{Option};
+ghost use Rattle.cm_io.specs.Causes.{Rose, one_more};
+ghost use Rattle.cm_io.specs.Shelf.{Fetches, NoneFalls, SameFiles};
+ghost use Rattle.cm_io.specs.Sink.{PutTakes};
 
 use cm_io::{Failed, Shelf, Sink};
 use std::fs::File;
@@ -10,11 +14,14 @@ use std::io::{self, Read, Seek, SeekFrom, Write};
 pub struct FileShelf<'a> {
     rt: &'a HostRuntime,
     last: Option<Opened>,
-    faults: u64,
+    /// The count of every name: how many fetches failed.
+    pub faults: u64,
 }
 
 impl<'a> FileShelf<'a> {
-    pub fn new(rt: &'a HostRuntime) -> FileShelf<'a> {
+    pub fn new(rt: &'a HostRuntime) -> FileShelf<'a>
+        ensures { result.faults ≡ 0 }
+    {
         FileShelf {
             rt,
             last: None,
@@ -79,7 +86,14 @@ impl Shelf for FileShelf<'_> {
 
     ghost faults = { λ s name. s.faults };
 
-    fn fetch(&mut self, name: &str, from: u64, buf: &mut [u8]) -> Result<usize, Failed> {
+    fn fetch(&mut self, name: &str, from: u64, buf: &mut [u8]) -> Result<usize, Failed>
+        ensures bound { IfOk result (λ n. n ≤ length buf.new) }
+        ensures bytes { Fetches None from result buf.new }
+        ensures same { SameFiles (λ (file : List ℕ). None) (λ (file : List ℕ). None) }
+        ensures later { NoneFalls (λ (file : List ℕ). self.old.faults) (λ (file : List ℕ). self.new.faults) }
+        ensures cause { OnErr result (Rose self.old.faults self.new.faults) }
+        ensures counts { self.new.faults ≡ (if is_ok result then self.old.faults else one_more self.old.faults) }
+    {
         match self.read(name, from, buf) {
             Ok(count) => Ok(count),
             Err(_) => {
@@ -93,12 +107,15 @@ impl Shelf for FileShelf<'_> {
 /// A stream. It tells what its writer tells, and the machine's streams tell nothing.
 #[derive(Drop)]
 pub struct StdSink<W: Write> {
-    inner: W,
-    faults: u64,
+    pub inner: W,
+    /// How many puts failed.
+    pub faults: u64,
 }
 
 impl<W: Write> StdSink<W> {
-    pub fn new(inner: W) -> StdSink<W> {
+    pub fn new(inner: W) -> StdSink<W>
+        ensures { result ≡ record { inner = inner; faults = 0 } }
+    {
         StdSink { inner, faults: 0 }
     }
 }
@@ -108,7 +125,15 @@ impl<W: Write> Sink for StdSink<W> {
 
     ghost faults = { λ s. s.faults };
 
-    fn put(&mut self, bytes: &[u8]) -> Result<(), Failed> {
+    fn put(&mut self, bytes: &[u8]) -> Result<(), Failed>
+        ensures taken { PutTakes (W.contents self.old.inner) (W.contents self.new.inner) result bytes.now }
+        ensures later { self.old.faults ≤ self.new.faults }
+        ensures cause { OnErr result (Rose self.old.faults self.new.faults) }
+        ensures empty { bytes.now ≡ [] → IsOk result }
+        ensures empty_written { bytes.now ≡ [] → W.contents self.new.inner ≡ W.contents self.old.inner }
+        ensures empty_faults { bytes.now ≡ [] → self.new.faults ≡ self.old.faults }
+        ensures counts { self.new.faults ≡ (if is_ok result then self.old.faults else one_more self.old.faults) }
+    {
         let mut done = 0;
         'writes: while done < bytes.len() {
             match self.inner.write(&bytes[done..]) {
