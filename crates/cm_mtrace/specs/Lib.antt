@@ -1,1 +1,4 @@
 pub mod Lines
+pub mod Reader
+pub mod Reading
+pub mod Trace

@@ -1,0 +1,1 @@
+use Rattle.cm_top.proofs.run.Run.feed.Goals as goal

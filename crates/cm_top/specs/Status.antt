@@ -1,0 +1,15 @@
+-- The exit status of the process.
+use Rattle.std.specs.Prelude.{ℕ}
+use Rattle.cm_top.specs.declared.status.Status.{Status}
+use Rattle.cm_top.specs.declared.status.Status.TheVariants.{Done, Refused, Usage, ReadFault, WriteFault, Memory, Over, TooLong, Conflicts}
+
+abbrev pub number_of : Status → ℕ
+number_of Done = 0
+number_of Refused = 1
+number_of Usage = 2
+number_of ReadFault = 3
+number_of WriteFault = 4
+number_of Memory = 5
+number_of Over = 6
+number_of TooLong = 7
+number_of Conflicts = 8
