@@ -47,6 +47,6 @@ abbrev pub after_fetch : ShelfState → List ℕ → ShelfState
 after_fetch s name =
     record s { calls = one_more s.calls; missing = if is_some (bytes_of s.files name) then s.missing else one_more s.missing }
 
--- no call failed and none will, so the count of each name that it holds is 0
+-- the count of each name that it holds is 0
 abbrev pub IsQuiet : ShelfState → Type 0
 IsQuiet s = (name : List ℕ) → is_some (bytes_of s.files name) ≡ true → faults_of s name ≡ 0

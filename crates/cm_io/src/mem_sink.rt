@@ -40,8 +40,8 @@ impl Model for MemSink {
 }
 
 impl MemSink {
-    /// A sink that takes its room when made. The puts of the numbers in `fails` fail; of several
-    /// entries for one put the first counts.
+    /// A sink that takes its room when made, so that a put takes no memory. The puts of the numbers
+    /// in `fails` fail; of several entries for one put the first counts.
     pub fn new(alloc: Global, room: usize, fails: List<PutFail>) -> Result<MemSink, NoMemory>
         ensures { IfOk result (λ sink. sink ≡ record { bytes = []; room = room; fails = fails; calls = 0; failed = 0 }) }
     {

@@ -1,5 +1,5 @@
 // The machine's files and streams.
-ghost use Rattle.std.specs.Prelude.{◌≡◌, ◌≤◌, ℕ, List, [], IfOk, IsOk, OnErr, None, is_ok, length, if◌then◌else◌};
+ghost use Rattle.std.specs.Prelude.{◌≡◌, ◌↔◌, ◌≤◌, ◌+◌, ◌-◌, ◌^◌, ℕ, List, [], min, string_bytes, IsTrue, IfSome, IsSomeAnd, IfOk, IsOk, OnErr, None, is_ok, length, if◌then◌else◌};
 ghost use Rattle.std.specs.declared.option.Option.{Option};
 ghost use Rattle.cm_io.specs.Causes.{Rose, one_more};
 ghost use Rattle.cm_io.specs.Shelf.{Fetches, NoneFalls, SameFiles};
@@ -53,7 +53,10 @@ struct Opened {
 }
 
 impl Opened {
-    fn new(rt: &HostRuntime, name: &str) -> io::Result<Opened> {
+    fn new(rt: &HostRuntime, name: &str) -> io::Result<Opened>
+        ensures name { IfOk result (λ opened. IfSome opened.name (λ known. string_bytes known ≡ name.now)) }
+        ensures start { IfOk result (λ opened. opened.at ≡ 0) }
+    {
         Ok(Opened {
             file: File::open(rt, name)?,
             name: String::from_str(rt.alloc(), name).ok(),
@@ -61,7 +64,9 @@ impl Opened {
         })
     }
 
-    fn is_of(&self, name: &str) -> bool {
+    fn is_of(&self, name: &str) -> bool
+        ensures { IsTrue result ↔ IsSomeAnd self.now.name (λ known. string_bytes known ≡ name.now) }
+    {
         match &self.name {
             Some(known) => known.as_str() == name,
             None => false,
@@ -70,7 +75,9 @@ impl Opened {
 
     // Seeks only where it isn't at the place already, so a pipe can be read to its end.
     fn read(&mut self, from: u64, buf: &mut [u8]) -> io::Result<usize>
-        ensures { IfOk result (λ n. n ≤ length buf.new) }
+        ensures bound { IfOk result (λ n. n ≤ length buf.new) }
+        ensures place { IfOk result (λ n. self.new.at ≡ min (from + n) (2 ^ 64 - 1)) }
+        ensures name { self.new.name ≡ self.old.name }
     {
         if self.at != from {
             self.file.seek(SeekFrom::Start(from))?;
