@@ -1,12 +1,8 @@
 //! Finds the cache lines on which the two calls of a test conflict.
 #![tactic(auto)]
 
-mod judge;
 mod line;
 mod summary;
+mod table;
 
-pub use judge::Judge;
 pub use line::{Lines, lines_of};
-
-#[cfg(test)]
-mod tests;
