@@ -37,11 +37,23 @@ Any-more P xs y = (
 bounds_more : (c : Cores) (Before After : ℕ → Type 0) → ((core : ℕ) → Before core → After core) → AreBoundsOf c Before → AreBoundsOf c After
 bounds_more c Before After grow h = elim h [ inl b ↦ inl (grow c.least b.0, grow c.greatest b.1) | inr none ↦ inr none ]
 
-min_cases : (m n : ℕ) → (min m n ≡ m) ⊎ (min m n ≡ n)
+pub min_cases : (m n : ℕ) → (min m n ≡ m) ⊎ (min m n ≡ n)
 min_cases m n = elim (cases_lt m n) [ inl below ↦ inl (omega arith) | inr above ↦ inr (omega arith) ]
 
-max_cases : (m n : ℕ) → (max m n ≡ m) ⊎ (max m n ≡ n)
+pub max_cases : (m n : ℕ) → (max m n ≡ m) ⊎ (max m n ≡ n)
 max_cases m n = elim (cases_lt m n) [ inl below ↦ inr (omega arith) | inr above ↦ inl (omega arith) ]
+
+-- bounds in order are those of some cores
+pub bounds_some : (c : Cores) (Is : ℕ → Type 0) → AreBoundsOf c Is → c.least ≤ c.greatest → Is c.least × Is c.greatest
+bounds_some c Is h some =
+    elim h [
+      | inl b ↦ b
+      | inr none ↦ absurd (
+          let least : c.least ≡ 65535 = ap (λ (d : Cores). d.least) none in
+          let greatest : c.greatest ≡ 0 = ap (λ (d : Cores). d.greatest) none in
+          omega arith
+          )
+    ]
 
 bounds_with : (c : Cores) (core : ℕ) (Before After : ℕ → Type 0) → core ≤ 65535 → ((other : ℕ) → Before other → After other) → After core → AreBoundsOf c Before → AreBoundsOf (with_core c core) After
 bounds_with c core Before After small grow own h =
@@ -89,14 +101,14 @@ pub record Replaces (before after : List Record) (r : Record) : Type 0 where
 touches_more : (entries : List Entry) (e : Entry) (who : Who) (kind : Kind) (line core : ℕ) → Touches entries who kind line core → Touches (entries ++ e ∷ []) who kind line core
 touches_more entries e who kind line core t = (Any-more (λ x. IsAccess x who kind line core) entries e).1 (inl t)
 
-set_from : (xs : List Record) (k : ℕ) (r q : Record) → k < length xs → Contains (set xs k r) q → Contains xs q ⊎ (q ≡ r)
+pub set_from : (xs : List Record) (k : ℕ) (r q : Record) → k < length xs → Contains (set xs k r) q → Contains xs q ⊎ (q ≡ r)
 set_from xs k r q within has =
     elim (cases_eq has.0 k) [
       | inl e ↦ inr (sym has.2 ∙ ap (λ (i : ℕ). get_or (set xs k r) i q) e ∙ get_or-set_same xs k r q within)
       | inr apart ↦ inl (has.0, omega (arith, has.1, length-set xs k r), sym (get_or-set_other xs k has.0 r q apart) ∙ has.2)
     ]
 
-set_kept : (xs : List Record) (k : ℕ) (r d q : Record) → k < length xs → Contains xs q → Contains (set xs k r) q ⊎ (q ≡ get_or xs k d)
+pub set_kept : (xs : List Record) (k : ℕ) (r d q : Record) → k < length xs → Contains xs q → Contains (set xs k r) q ⊎ (q ≡ get_or xs k d)
 set_kept xs k r d q within has =
     elim (cases_eq has.0 k) [
       | inl e ↦ inr (sym has.2 ∙ ap (λ (i : ℕ). get_or xs i q) e ∙ get_or_default xs k q d within)
@@ -148,17 +160,18 @@ wider_add s t e own others who kind core h =
       | inr apart ↦ subst (λ (c : Cores). IsWithin c core) (sym (others who kind apart)) h
     ]
 
+pub blank_cores : (s : LineSummary) (who : Who) (kind : Kind) → IsBlank s → cores_of s who kind ≡ no_cores
+blank_cores s who kind blank =
+    elim (cases_lt (place who kind) (length s.cores)) [
+      | inl below ↦ blank (place who kind) no_cores below
+      | inr past ↦ get_or_past s.cores (place who kind) no_cores past
+    ]
+
 -- nothing is within what a blank summary has
 pub blank_within : (s : LineSummary) (who : Who) (kind : Kind) (core : ℕ) → IsBlank s → IsWithin (cores_of s who kind) core → ⊥
 blank_within s who kind core blank h =
-    elim (cases_lt (place who kind) (length s.cores)) [
-      | inl below ↦ (let b = blank (place who kind) no_cores below in omega (arith, b, h.above, h.below))
-      | inr past ↦ (
-          let none : cores_of s who kind ≡ no_cores = get_or_past s.cores (place who kind) no_cores past in
-          let w : IsWithin no_cores core = subst (λ (c : Cores). IsWithin c core) none h in
-          omega (arith, w.above, w.below)
-          )
-    ]
+    let w : IsWithin no_cores core = subst (λ (c : Cores). IsWithin c core) (blank_cores s who kind blank) h in
+    omega (arith, w.above, w.below)
 
 -- an access of the record's line
 pub Keep-here : (before after : List Record) (r : Record) (entries : List Entry) (e : Entry) (line : ℕ) → r.line ≡ line → Replaces before after r → Covers e line → e.core ≤ 65535

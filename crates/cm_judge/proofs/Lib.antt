@@ -1,3 +1,5 @@
 pub mod Accesses
 pub mod Covered
 pub mod Keeps
+pub mod Same
+pub mod Merges

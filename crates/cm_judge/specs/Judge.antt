@@ -1,5 +1,5 @@
 -- What a judge keeps.
-use Rattle.std.specs.Prelude.{◌≡◌, ◌≢◌, ℕ, List, Any, Contains}
+use Rattle.std.specs.Prelude.{◌≡◌, ◌≢◌, ◌⊎◌, ◌++◌, ℕ, List, Any, Contains}
 use Rattle.cm_mtrace.specs.declared.item.Entry.{Entry}
 use Rattle.cm_mtrace.specs.declared.item.Who.{Who}
 use Rattle.cm_mtrace.specs.declared.item.Who.TheVariants.{Other}
@@ -15,6 +15,15 @@ pub record KeepLine (records : List Record) (entries : List Entry) (line : ℕ) 
 -- a judge stands for each list of entries of which it keeps the summary
 abbrev pub StandsFor : List Record → List Entry → Type 0
 StandsFor judge entries = (line : ℕ) → KeepLine judge entries line
+
+-- the records with accesses are the same
+pub record SameButBlank (before after : List Record) : Type 0 where
+  pub from : (r : Record) → Contains after r → Contains before r ⊎ IsBlank r.summary
+  pub kept : (r : Record) → Contains before r → Contains after r ⊎ IsBlank r.summary
+
+-- beside any others, the records keep what those of before kept
+abbrev pub KeepWhat : List Record → List Record → Type 0
+KeepWhat before after = (others : List Record) (entries : List Entry) (line : ℕ) → KeepLine (others ++ before) entries line → KeepLine (others ++ after) entries line
 
 -- at most one record of a line has accesses
 abbrev pub HasOneEach : List Record → Type 0

@@ -43,7 +43,7 @@ cores_of s who kind = slice_index_or s.cores (place who kind) no_cores
 
 -- no core of any access is kept
 abbrev pub IsBlank : LineSummary → Type 0
-IsBlank s = All (λ c. c.greatest < c.least) s.cores
+IsBlank s = All (λ c. c ≡ no_cores) s.cores
 
 -- the cores are the bounds of those that are so: the least and the greatest are so, or there is none
 abbrev pub AreBoundsOf : Cores → (ℕ → Type 0) → Type 0

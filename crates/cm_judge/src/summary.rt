@@ -1,4 +1,4 @@
-ghost use Rattle.std.specs.Prelude.{◌≡◌, ◌≢◌, List, ◌↔◌, ◌⊎◌, ◌<◌, ◌≤◌, ℕ, IsTrue, min, max};
+ghost use Rattle.std.specs.Prelude.{◌≡◌, ◌≢◌, List, ◌↔◌, ◌⊎◌, ◌<◌, ◌≤◌, ℕ, IsTrue, false, min, max};
 ghost use Rattle.cm_mtrace.specs.declared.item.Who.{Who};
 ghost use Rattle.cm_mtrace.specs.declared.item.Who.TheVariants.{A, B, Other};
 ghost use Rattle.cm_mtrace.specs.declared.item.Kind.{Kind};
@@ -99,7 +99,7 @@ impl LineSummary {
     pub(crate) fn is_blank(&self) -> bool
         ensures { IsTrue result ↔ IsBlank self.now }
     {
-        self.cores.iter().all(|cores| cores.is_empty())
+        self.cores.iter().all(|cores| *cores == Cores::none())
     }
 
     fn cores(&self, who: Who, kind: Kind) -> Cores
@@ -139,7 +139,8 @@ impl LineSummary {
 
     /// A write of one call and an access of the other were made by different cores.
     pub(crate) fn is_conflict(&self) -> bool
-        ensures { (entries : List Entry) (line : ℕ) → IsSummaryOf self.now entries line → (IsTrue result ↔ IsConflictLine entries line) }
+        ensures blank { IsBlank self.now → result ≡ false }
+        ensures conflict { (entries : List Entry) (line : ℕ) → IsSummaryOf self.now entries line → (IsTrue result ↔ IsConflictLine entries line) }
     {
         self.differ(Kind::Write, Kind::Write)
             || self.differ(Kind::Write, Kind::Read)

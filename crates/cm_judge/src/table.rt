@@ -27,7 +27,7 @@ pub(crate) enum Place {
 }
 
 // How many slots may have a line: the one that its address gives, and those behind it.
-const WINDOW: usize = 32;
+pub(crate) const WINDOW: usize = 32;
 
 #[tactic(auto, unfolding(crate::specs::Table::first_slot))]
 fn first_slot_of(line: u64, slots: usize) -> usize
@@ -39,7 +39,7 @@ fn first_slot_of(line: u64, slots: usize) -> usize
     (hash >> 32) as usize & (slots - WINDOW)
 }
 
-fn place_for(slots: &[Record], line: u64) -> Place
+pub(crate) fn place_for(slots: &[Record], line: u64) -> Place
     ensures { IsPlaceFor slots.now line result }
 {
     if slots.len() < WINDOW {

@@ -1,0 +1,170 @@
+ghost use Rattle.std.specs.Prelude.{◌≡◌, ◌≢◌, ◌↔◌, [], ◌∷◌, ◌++◌, List, ℕ, ◌+◌, ◌*◌, ◌<◌, ◌≤◌, All, IfOk, OnOk, OnErr, vec_len, vec_capacity};
+ghost use Rattle.cm_mtrace.specs.Lines.{Covers, IsInRange};
+ghost use Rattle.cm_mtrace.specs.declared.item.Entry.{Entry};
+ghost use Rattle.cm_mtrace.specs.declared.item.Who.TheVariants.{Other};
+ghost use Rattle.cm_judge.specs.Conflicts.{AreConflictLines};
+ghost use Rattle.cm_judge.specs.Judge.{KeepWhat, SameButBlank, StandsFor};
+ghost use Rattle.cm_judge.specs.Summary.{IsBlank};
+ghost use Rattle.cm_judge.specs.declared.table.Record.{Record};
+
+use crate::grow::{grown, has_one_each};
+use crate::line::{Lines, lines_of};
+use crate::merge::{conflict_lines, merged};
+use crate::summary::LineSummary;
+use crate::table::{Record, WINDOW, note};
+use cm_model::{List, NoMemory};
+use cm_mtrace::{Entry, Who};
+use std::alloc::Global;
+use std::marker::Model;
+
+// How many records spill before those of one line are put together.
+const SPILL: usize = 1024;
+
+// Lets the table grow where it holds as many lines as it should.
+fn make_room(
+    alloc: Global,
+    slots: &mut Vec<Record>,
+    held: usize,
+    limit: &mut usize,
+) -> Result<(), NoMemory>
+    ensures ok { OnOk result (SameButBlank slots.old.items slots.new.items) }
+    ensures err { OnErr result (slots.new.items ≡ slots.old.items) }
+{
+    if held < *limit {
+        return Ok(());
+    }
+    match grown(alloc, slots.as_slice())? {
+        Some(larger) => {
+            *slots = larger;
+            *limit = slots.len().saturating_sub(WINDOW) / 2;
+        }
+        None => *limit = held.saturating_mul(2),
+    }
+    Ok(())
+}
+
+// Adds an access to what is kept of each of its lines. Tells how many lines are new.
+fn note_lines(slots: &mut [Record], spill: &mut Vec<Record>, lines: Lines, e: &Entry)
+    requires judged { e.now.who ≢ Other }
+    requires lines { (line : ℕ) → Covers e.now line ↔ ((k : ℕ) × (k < lines.count) × (line ≡ lines.first + 64 * k)) }
+    requires range { IsInRange e.now }
+    requires room { vec_len spill.old + lines.count ≤ vec_capacity spill.old }
+    ensures { (entries : List Entry) → StandsFor (slots.old ++ spill.old.items) entries → StandsFor (slots.new ++ spill.new.items) (entries ++ e.now ∷ []) }
+{
+    for k in 0..lines.count {
+        let line = lines.first + 64 * u64::from(k);
+        note(slots, spill, line, e);
+    }
+}
+
+// Puts the records of one line together where many have spilled.
+fn trim(alloc: Global, spill: &mut Vec<Record>, limit: &mut usize)
+    ensures { KeepWhat spill.old.items spill.new.items }
+{
+    if spill.len() < *limit {
+        return;
+    }
+    if let Ok(records) = Vec::from_slice(alloc, spill.as_slice()) {
+        if let Ok(fewer) = merged(alloc, records) {
+            *spill = fewer;
+        }
+    }
+    *limit = spill.len().saturating_mul(2).saturating_add(SPILL);
+}
+
+// Empties the table, and gives it back where it is much larger than what it held.
+fn clear(alloc: Global, slots: &mut Vec<Record>, held: usize)
+    ensures { All (λ (r : Record). IsBlank r.summary) slots.new.items }
+{
+    if slots.len() / 16 > held.saturating_add(64) {
+        *slots = Vec::new(alloc);
+    } else {
+        for slot in slots.iter_mut() {
+            *slot = Record {
+                line: 0,
+                summary: LineSummary::blank(),
+            };
+        }
+    }
+}
+
+/// Collects the accesses of a section.
+#[derive(Debug, Drop)]
+pub struct Judge {
+    alloc: Global,
+    // A hash table of lines.
+    slots: Vec<Record>,
+    // Accesses to lines that found no slot.
+    spill: Vec<Record>,
+    // How many slots have a line, and how many may before the table grows.
+    held: usize,
+    limit: usize,
+    spill_limit: usize,
+}
+
+impl Model for Judge {
+    ghost use Rattle.std.specs.Prelude.{List, ◌++◌};
+    ghost use Rattle.cm_judge.specs.declared.table.Record.{Record};
+
+    ghost Value = { List Record };
+
+    ghost view = { λ j. j.slots.items ++ j.spill.items };
+}
+
+impl Judge {
+    /// A judge of no entries.
+    pub fn new(alloc: Global) -> Judge
+        ensures { StandsFor result [] }
+    {
+        Judge {
+            alloc,
+            slots: Vec::new(alloc),
+            spill: Vec::new(alloc),
+            held: 0,
+            limit: 0,
+            spill_limit: SPILL,
+        }
+    }
+
+    /// Adds an entry of the section.
+    pub fn add(&mut self, e: &Entry) -> Result<(), NoMemory>
+        requires { IsInRange e.now }
+        ensures ok { OnOk result ((entries : List Entry) → StandsFor self.old entries → StandsFor self.new (entries ++ e.now ∷ [])) }
+        ensures err { OnErr result (self.new ≡ self.old) }
+    {
+        if e.who == Who::Other {
+            return Ok(());
+        }
+        let lines = lines_of(e);
+        self.spill.reserve(usize::from(lines.count))?;
+        make_room(self.alloc, &mut self.slots, self.held, &mut self.limit)?;
+        note_lines(self.slots.as_mut_slice(), &mut self.spill, lines, e);
+        trim(self.alloc, &mut self.spill, &mut self.spill_limit);
+        Ok(())
+    }
+
+    fn conflicts(&self) -> Result<Vec<u64>, NoMemory>
+        ensures { IfOk result (λ lines. (entries : List Entry) → StandsFor self.now entries → AreConflictLines entries lines.items) }
+    {
+        if self.spill.is_empty() && has_one_each(self.slots.as_slice()) {
+            return conflict_lines(self.alloc, self.slots.as_slice());
+        }
+        let mut records = Vec::from_slice(self.alloc, self.slots.as_slice())?;
+        records.extend_from_slice(self.spill.as_slice())?;
+        let merged = merged(self.alloc, records)?;
+        conflict_lines(self.alloc, merged.as_slice())
+    }
+
+    /// The conflict lines of the entries, ascending, each once. The judge is then one of no entries.
+    pub fn take_conflicts(&mut self) -> Result<List<u64>, NoMemory>
+        ensures lines { IfOk result (λ lines. (entries : List Entry) → StandsFor self.old entries → AreConflictLines entries lines) }
+        ensures emptied { OnOk result (StandsFor self.new []) }
+        ensures err { OnErr result (self.new ≡ self.old) }
+    {
+        let lines = self.conflicts()?;
+        clear(self.alloc, &mut self.slots, self.held);
+        self.spill.clear();
+        self.held = 0;
+        Ok(List::from_vec(lines))
+    }
+}
