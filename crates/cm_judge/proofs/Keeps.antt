@@ -21,7 +21,7 @@ pub any_of : {X : Type 0} (P : X → Type 0) (xs : List X) (x : X) → Contains 
 any_of P xs x has p = (has.0, x, has.1, has.2, p)
 
 -- some element of a list with one more
-Any-more : {X : Type 0} (P : X → Type 0) (xs : List X) (y : X) → Any P (xs ++ y ∷ []) ↔ (Any P xs ⊎ P y)
+pub Any-more : {X : Type 0} (P : X → Type 0) (xs : List X) (y : X) → Any P (xs ++ y ∷ []) ↔ (Any P xs ⊎ P y)
 Any-more P xs y = (
   λ a. elim (Contains-push_cases xs y a.1 (a.0, a.2, a.3)) [
     | inl old ↦ inl (any_of P xs a.1 old a.4)

@@ -3,3 +3,4 @@ pub mod Covered
 pub mod Keeps
 pub mod Same
 pub mod Merges
+pub mod Notes

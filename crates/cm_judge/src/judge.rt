@@ -43,8 +43,14 @@ fn make_room(
     Ok(())
 }
 
-// Adds an access to what is kept of each of its lines. Tells how many lines are new.
-fn note_lines(slots: &mut [Record], spill: &mut Vec<Record>, lines: Lines, e: &Entry)
+// Adds an access to what is kept of each of its lines.
+fn note_lines(
+    slots: &mut [Record],
+    spill: &mut Vec<Record>,
+    held: &mut usize,
+    lines: Lines,
+    e: &Entry,
+)
     requires judged { e.now.who ≢ Other }
     requires lines { (line : ℕ) → Covers e.now line ↔ ((k : ℕ) × (k < lines.count) × (line ≡ lines.first + 64 * k)) }
     requires range { IsInRange e.now }
@@ -53,7 +59,7 @@ fn note_lines(slots: &mut [Record], spill: &mut Vec<Record>, lines: Lines, e: &E
 {
     for k in 0..lines.count {
         let line = lines.first + 64 * u64::from(k);
-        note(slots, spill, line, e);
+        note(slots, spill, held, line, e);
     }
 }
 
@@ -72,6 +78,30 @@ fn trim(alloc: Global, spill: &mut Vec<Record>, limit: &mut usize)
     *limit = spill.len().saturating_mul(2).saturating_add(SPILL);
 }
 
+// The lines in conflict. Records are put together only where a line may have several.
+fn conflicts(alloc: Global, slots: &[Record], spill: &[Record]) -> Result<Vec<u64>, NoMemory>
+    ensures { IfOk result (λ lines. (entries : List Entry) → StandsFor (slots.now ++ spill.now) entries → AreConflictLines entries lines.items) }
+{
+    if spill.is_empty() && has_one_each(slots) {
+        return conflict_lines(alloc, slots);
+    }
+    let mut records = Vec::from_slice(alloc, slots)?;
+    records.extend_from_slice(spill)?;
+    let records = merged(alloc, records)?;
+    conflict_lines(alloc, records.as_slice())
+}
+
+fn blank_all(slots: &mut [Record])
+    ensures { All (λ (r : Record). IsBlank r.summary) slots.new }
+{
+    for slot in slots.iter_mut() {
+        *slot = Record {
+            line: 0,
+            summary: LineSummary::blank(),
+        };
+    }
+}
+
 // Empties the table, and gives it back where it is much larger than what it held.
 fn clear(alloc: Global, slots: &mut Vec<Record>, held: usize)
     ensures { All (λ (r : Record). IsBlank r.summary) slots.new.items }
@@ -79,12 +109,7 @@ fn clear(alloc: Global, slots: &mut Vec<Record>, held: usize)
     if slots.len() / 16 > held.saturating_add(64) {
         *slots = Vec::new(alloc);
     } else {
-        for slot in slots.iter_mut() {
-            *slot = Record {
-                line: 0,
-                summary: LineSummary::blank(),
-            };
-        }
+        blank_all(slots.as_mut_slice());
     }
 }
 
@@ -138,21 +163,15 @@ impl Judge {
         let lines = lines_of(e);
         self.spill.reserve(usize::from(lines.count))?;
         make_room(self.alloc, &mut self.slots, self.held, &mut self.limit)?;
-        note_lines(self.slots.as_mut_slice(), &mut self.spill, lines, e);
+        note_lines(
+            self.slots.as_mut_slice(),
+            &mut self.spill,
+            &mut self.held,
+            lines,
+            e,
+        );
         trim(self.alloc, &mut self.spill, &mut self.spill_limit);
         Ok(())
-    }
-
-    fn conflicts(&self) -> Result<Vec<u64>, NoMemory>
-        ensures { IfOk result (λ lines. (entries : List Entry) → StandsFor self.now entries → AreConflictLines entries lines.items) }
-    {
-        if self.spill.is_empty() && has_one_each(self.slots.as_slice()) {
-            return conflict_lines(self.alloc, self.slots.as_slice());
-        }
-        let mut records = Vec::from_slice(self.alloc, self.slots.as_slice())?;
-        records.extend_from_slice(self.spill.as_slice())?;
-        let merged = merged(self.alloc, records)?;
-        conflict_lines(self.alloc, merged.as_slice())
     }
 
     /// The conflict lines of the entries, ascending, each once. The judge is then one of no entries.
@@ -161,7 +180,7 @@ impl Judge {
         ensures emptied { OnOk result (StandsFor self.new []) }
         ensures err { OnErr result (self.new ≡ self.old) }
     {
-        let lines = self.conflicts()?;
+        let lines = conflicts(self.alloc, self.slots.as_slice(), self.spill.as_slice())?;
         clear(self.alloc, &mut self.slots, self.held);
         self.spill.clear();
         self.held = 0;

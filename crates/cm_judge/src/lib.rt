@@ -10,3 +10,6 @@ mod table;
 
 pub use judge::Judge;
 pub use line::{Lines, lines_of};
+
+#[cfg(test)]
+mod tests;

@@ -70,8 +70,14 @@ fn first_record(line: u64, e: &Entry) -> Record
     Record { line, summary }
 }
 
-/// Adds an access to what is kept of the line.
-pub(crate) fn note(slots: &mut [Record], spill: &mut Vec<Record>, line: u64, e: &Entry)
+/// Adds an access to what is kept of the line, and counts a slot that it fills.
+pub(crate) fn note(
+    slots: &mut [Record],
+    spill: &mut Vec<Record>,
+    held: &mut usize,
+    line: u64,
+    e: &Entry,
+)
     requires judged { e.now.who ≢ Other }
     requires covered { Covers e.now line }
     requires room { vec_len spill.old < vec_capacity spill.old }
@@ -82,7 +88,10 @@ pub(crate) fn note(slots: &mut [Record], spill: &mut Vec<Record>, line: u64, e: 
 {
     match place_for(slots, line) {
         Place::Held(k) => slots[k].summary.add(e),
-        Place::Free(k) => slots[k] = first_record(line, e),
+        Place::Free(k) => {
+            slots[k] = first_record(line, e);
+            *held = held.saturating_add(1);
+        }
         Place::Nowhere => match spill.push(first_record(line, e)) {
             Ok(()) => {}
             Err(_) => unreachable!(),
