@@ -1,5 +1,5 @@
 -- Where the table of a judge may have a line.
-use Rattle.std.specs.Prelude.{◌≡◌, ◌≢◌, ℕ, ◌+◌, ◌-◌, ◌*◌, ◌/◌, ◌%◌, ◌^◌, ◌<◌, ◌≤◌, List, length, slice_index_or, bit_and}
+use Rattle.std.specs.Prelude.{◌≡◌, ◌≢◌, ℕ, ◌+◌, ◌-◌, ◌*◌, ◌/◌, ◌%◌, ◌^◌, ◌<◌, ◌≤◌, List, length, slice_index_or, min}
 use Rattle.cm_judge.specs.declared.table.Record.{Record}
 use Rattle.cm_judge.specs.declared.table.Place.{Place}
 use Rattle.cm_judge.specs.declared.table.Place.TheVariants.{Held, Free, Nowhere}
@@ -7,7 +7,7 @@ use Rattle.cm_judge.specs.Summary.{IsBlank}
 
 -- the first slot that may have the line, of so many slots
 unfoldable pub first_slot : ℕ → ℕ → ℕ
-first_slot line slots = bit_and ((line / 64 * 0x9e37_79b9_7f4a_7c15) % 2 ^ 64 / 2 ^ 32) (slots - 32)
+first_slot line slots = (line / 64 * 0x9e37_79b9_7f4a_7c15) % 2 ^ 64 / 2 ^ 32 * min (slots - 32) 0xffff_ffff / 2 ^ 32
 
 -- the slot has the line, and none before it that may
 pub record HoldsFirst (slots : List Record) (line k : ℕ) : Type 0 where

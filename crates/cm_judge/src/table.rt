@@ -29,14 +29,18 @@ pub(crate) enum Place {
 // How many slots may have a line: the one that its address gives, and those behind it.
 pub(crate) const WINDOW: usize = 32;
 
+// The slots in which a line may be first are fewer than this.
+const MOST: u64 = 0xffff_ffff;
+
 #[tactic(auto, unfolding(crate::specs::Table::first_slot))]
 fn first_slot_of(line: u64, slots: usize) -> usize
     requires { WINDOW ≤ slots }
     ensures value { result ≡ first_slot line slots }
     ensures within { result + WINDOW ≤ slots }
 {
-    let hash = (line / 64).wrapping_mul(0x9e37_79b9_7f4a_7c15);
-    (hash >> 32) as usize & (slots - WINDOW)
+    let hash = (line / 64).wrapping_mul(0x9e37_79b9_7f4a_7c15) >> 32;
+    let firsts = (slots - WINDOW) as u64;
+    ((hash * firsts.min(MOST)) >> 32) as usize
 }
 
 pub(crate) fn place_for(slots: &[Record], line: u64) -> Place
