@@ -2,7 +2,6 @@ ghost use Rattle.std.specs.Prelude.{IfOk, IfSome};
 ghost use Rattle.cm_judge.specs.Judge.{HasOneEach, SameButBlank};
 ghost use Rattle.std.specs.Prelude.{IsTrue};
 
-use crate::summary::LineSummary;
 use crate::table::{Place, Record, WINDOW, place_for};
 use cm_model::NoMemory;
 use std::alloc::Global;
@@ -23,11 +22,7 @@ fn doubled(slots: usize) -> usize {
 pub(crate) fn grown(alloc: Global, slots: &[Record]) -> Result<Option<Vec<Record>>, NoMemory>
     ensures { IfOk result (λ table. IfSome table (λ new. SameButBlank slots.now new.items)) }
 {
-    let blank = Record {
-        line: 0,
-        summary: LineSummary::blank(),
-    };
-    let mut new = vec![in alloc; blank; doubled(slots.len())]?;
+    let mut new = vec![in alloc; Record::blank(); doubled(slots.len())]?;
     for slot in slots {
         if !slot.summary.is_blank() {
             match place_for(new.as_slice(), slot.line) {

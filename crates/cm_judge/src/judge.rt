@@ -10,7 +10,6 @@ ghost use Rattle.cm_judge.specs.declared.table.Record.{Record};
 use crate::grow::{grown, has_one_each};
 use crate::line::{Lines, lines_of};
 use crate::merge::{conflict_lines, merged};
-use crate::summary::LineSummary;
 use crate::table::{Record, WINDOW, note};
 use cm_model::{List, NoMemory};
 use cm_mtrace::{Entry, Who};
@@ -95,10 +94,7 @@ fn blank_all(slots: &mut [Record])
     ensures { All (λ (r : Record). IsBlank r.summary) slots.new }
 {
     for slot in slots.iter_mut() {
-        *slot = Record {
-            line: 0,
-            summary: LineSummary::blank(),
-        };
+        *slot = Record::blank();
     }
 }
 

@@ -5,7 +5,7 @@ ghost use Rattle.cm_mtrace.specs.declared.item.Kind.{Kind};
 ghost use Rattle.cm_mtrace.specs.declared.item.Who.{Who};
 ghost use Rattle.cm_mtrace.specs.declared.item.Who.TheVariants.{Other};
 ghost use Rattle.cm_judge.specs.Judge.{KeepLine};
-ghost use Rattle.cm_judge.specs.Summary.{cores_of, no_cores, with_core};
+ghost use Rattle.cm_judge.specs.Summary.{cores_of, IsBlank, no_cores, with_core};
 ghost use Rattle.cm_judge.specs.Table.{first_slot, IsPlaceFor};
 
 use crate::summary::LineSummary;
@@ -16,6 +16,18 @@ use cm_mtrace::Entry;
 pub struct Record {
     pub(crate) line: u64,
     pub(crate) summary: LineSummary,
+}
+
+impl Record {
+    /// A record of no line: lines are multiples of 64.
+    pub(crate) fn blank() -> Record
+        ensures { IsBlank result.summary }
+    {
+        Record {
+            line: u64::MAX,
+            summary: LineSummary::blank(),
+        }
+    }
 }
 
 /// Where a line has its record, or may get it.
