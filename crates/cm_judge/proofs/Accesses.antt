@@ -1,8 +1,6 @@
 -- When two calls conflict at a line, by the bounds of their cores.
-use Rattle.std.proofs.Common.{arith, ◌≡◌, ◌≢◌, ◌⊎◌, ◌↔◌, ℕ, ◌<◌, ◌≤◌, List, [], ◌∷◌, ◌++◌, refl, sym, ◌∙◌, subst, inl, inr}
-use Rattle.std.specs.List.{Any, Contains}
-use Rattle.std.proofs.lemmas.Bool.{cases_eq, cases_lt}
-use Rattle.cm_mtrace.specs.Lines.{Covers}
+use Rattle.std.proofs.Common.{arith, ◌≡◌, ◌≢◌, ◌⊎◌, ℕ, ◌≤◌, List, refl, sym, ◌∙◌, subst, inl, inr}
+use Rattle.std.proofs.lemmas.Bool.{cases_eq}
 use Rattle.cm_mtrace.specs.declared.item.Entry.{Entry}
 use Rattle.cm_mtrace.specs.declared.item.Who.{Who}
 use Rattle.cm_mtrace.specs.declared.item.Who.TheVariants.{A, B, Other}
@@ -11,7 +9,7 @@ use Rattle.cm_mtrace.specs.declared.item.Kind.TheVariants.{Read, Write}
 use Rattle.cm_judge.specs.declared.summary.Cores.{Cores}
 use Rattle.cm_judge.specs.declared.summary.LineSummary.{LineSummary}
 use Rattle.cm_judge.specs.Conflicts.{ConflictAt, IsConflictLine}
-use Rattle.cm_judge.specs.Summary.{AreTheCores, cores_of, Differ, IsAccess, IsSummaryOf, no_cores, Touches}
+use Rattle.cm_judge.specs.Summary.{AreTheCores, cores_of, Differ, IsSummaryOf, Touches}
 
 pub by_access : (P : Who → Kind → Type 0) → P A Read → P A Write → P B Read → P B Write → ((kind : Kind) → P Other kind) → (who : Who) (kind : Kind) → P who kind
 by_access P ar aw br bw o A Read = ar

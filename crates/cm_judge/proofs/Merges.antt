@@ -1,6 +1,6 @@
 -- Records of one line put together, and the lines in conflict of records of which a line has one.
-use Rattle.std.proofs.Common.{arith, zero, suc, ◌≡◌, ◌≢◌, ◌⊎◌, ℕ, ◌+◌, ◌<◌, ◌≤◌, Bool, true, false, List, [], ◌∷◌, ◌++◌, length, drop, take, get_or, append_assoc, eqb, ltb, cond, min, max, refl, sym, ap, ◌∙◌, subst, inl, inr}
-use Rattle.std.specs.List.{All, Any, Contains, dedup}
+use Rattle.std.proofs.Common.{arith, zero, suc, ◌≡◌, ◌≢◌, ◌⊎◌, ℕ, ◌+◌, ◌<◌, ◌≤◌, List, [], ◌∷◌, ◌++◌, length, take, get_or, append_assoc, eqb, ltb, cond, min, max, refl, sym, ap, ◌∙◌, subst, inl, inr}
+use Rattle.std.specs.List.{All, Contains, dedup}
 use Rattle.std.proofs.lemmas.Bool.{cond_both, ltb-true, ltb-false}
 use Rattle.std.specs.Ordering.{nat_cmp}
 use Rattle.std.specs.List.Sorted.{IsNonDecreasingBy, IsPermutation, IsSorted, IsStrictlyIncreasing}
@@ -9,17 +9,16 @@ use Rattle.std.proofs.lemmas.List.{take_more}
 use Rattle.std.proofs.lemmas.List.Kept.{Contains-dedup_nat, Contains-from_dedup}
 use Rattle.std.proofs.lemmas.Map.Keys.{IsStrictlyIncreasing-dedup}
 use Rattle.std.proofs.lemmas.List.Elements.{All-contains, All-push, Contains-append_left, Contains-append_right, Contains-append_cases, Contains-get_or, Contains-push, Contains-push_cases}
-use Rattle.cm_mtrace.specs.Lines.{Covers}
 use Rattle.cm_mtrace.specs.declared.item.Entry.{Entry}
 use Rattle.cm_mtrace.specs.declared.item.Who.{Who}
-use Rattle.cm_mtrace.specs.declared.item.Who.TheVariants.{A, B, Other}
+use Rattle.cm_mtrace.specs.declared.item.Who.TheVariants.{A, Other}
 use Rattle.cm_mtrace.specs.declared.item.Kind.{Kind}
 use Rattle.cm_judge.specs.declared.summary.Cores.{Cores}
 use Rattle.cm_judge.specs.declared.summary.LineSummary.{LineSummary}
 use Rattle.cm_judge.specs.declared.table.Record.{Record}
 use Rattle.cm_judge.specs.Conflicts.{AreConflictLines, ConflictAt, IsConflictLine}
 use Rattle.cm_judge.specs.Judge.{HasOneEach, KeepLine, KeepWhat, SameButBlank, StandsFor}
-use Rattle.cm_judge.specs.Summary.{AreBoundsOf, cores_of, IsBlank, IsSummaryOf, IsWithin, no_cores, Touches, union_of}
+use Rattle.cm_judge.specs.Summary.{AreBoundsOf, cores_of, IsBlank, IsSummaryOf, IsWithin, Touches, union_of}
 use Rattle.cm_judge.proofs.Accesses.{a≢other}
 use Rattle.cm_judge.proofs.Keeps.{any_of, blank_cores, blank_within, bounds_some, max_cases, min_cases, Replaces}
 

@@ -1,6 +1,6 @@
 -- The lines of an access, noted one after another.
-use Rattle.std.proofs.Common.{arith, ◌≡◌, ◌≢◌, ◌⊎◌, ◌↔◌, ℕ, ◌+◌, ◌-◌, ◌*◌, ◌/◌, ◌%◌, ◌<◌, ◌≤◌, List, [], ◌∷◌, ◌++◌, refl, sym, ap, ◌∙◌, subst, inl, inr}
-use Rattle.std.specs.List.{All, Any, Contains}
+use Rattle.std.proofs.Common.{arith, ◌≡◌, ◌≢◌, ◌⊎◌, ◌↔◌, ℕ, ◌+◌, ◌-◌, ◌*◌, ◌/◌, ◌<◌, List, [], ◌∷◌, ◌++◌, sym, ◌∙◌, subst, inl, inr}
+use Rattle.std.specs.List.{All}
 use Rattle.std.proofs.lemmas.Bool.{cases_eq, cases_lt}
 use Rattle.std.proofs.lemmas.List.Elements.{All-contains}
 use Rattle.cm_mtrace.specs.Lines.{Covers}
@@ -9,10 +9,9 @@ use Rattle.cm_mtrace.specs.declared.item.Who.{Who}
 use Rattle.cm_mtrace.specs.declared.item.Who.TheVariants.{Other}
 use Rattle.cm_mtrace.specs.declared.item.Kind.{Kind}
 use Rattle.cm_judge.specs.declared.table.Record.{Record}
-use Rattle.cm_judge.specs.declared.summary.Cores.{Cores}
 use Rattle.cm_judge.specs.Judge.{KeepLine, StandsFor}
-use Rattle.cm_judge.specs.Summary.{AreBoundsOf, cores_of, IsAccess, IsBlank, IsWithin, Touches}
-use Rattle.cm_judge.proofs.Keeps.{Any-more, any_of, blank_cores}
+use Rattle.cm_judge.specs.Summary.{cores_of, IsAccess, IsBlank, Touches}
+use Rattle.cm_judge.proofs.Keeps.{Any-more, blank_cores}
 
 -- the line is one of the first so many
 abbrev pub IsOneOf : ℕ → ℕ → ℕ → Type 0

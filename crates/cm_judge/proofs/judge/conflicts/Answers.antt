@@ -1,7 +1,6 @@
-use Rattle.std.proofs.Common.{List, [], ◌∷◌, ◌++◌, IfOk, Ok, Err, Result, ℕ, ◌≡◌, length, arith, ap, refl, sym, ◌∙◌, subst}
+use Rattle.std.proofs.Common.{List, [], ◌∷◌, ◌++◌, IfOk, Ok, Err, Result, ◌≡◌, length, arith, ap, refl, sym, ◌∙◌, subst}
 use Rattle.std.proofs.lemmas.List.{append-nil}
 use Rattle.std.proofs.lemmas.Bool.{eqb-true}
-use Rattle.cm_mtrace.specs.declared.item.Entry.{Entry}
 use Rattle.cm_judge.specs.declared.table.Record.{Record}
 use Rattle.cm_judge.specs.Judge.{HasOneEach}
 use Rattle.cm_judge.proofs.judge.conflicts.Goals as goal

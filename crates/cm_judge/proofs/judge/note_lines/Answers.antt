@@ -1,4 +1,4 @@
-use Rattle.std.proofs.Common.{arith, ◌≡◌, ◌↔◌, ℕ, ◌+◌, ◌*◌, refl, subst, sym, ◌++◌}
+use Rattle.std.proofs.Common.{arith, ◌≡◌, ◌↔◌, ℕ, ◌+◌, ◌*◌, refl, subst, ◌++◌}
 use Rattle.cm_mtrace.specs.Lines.{Covers}
 use Rattle.cm_judge.proofs.Notes.{IsOneOf, noted_all, noted_more}
 use Rattle.cm_judge.proofs.judge.note_lines.Goals as goal

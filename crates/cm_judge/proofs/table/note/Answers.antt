@@ -1,11 +1,6 @@
-use Rattle.std.proofs.Common.{inl, inr, refl, sym, subst}
-use Rattle.std.proofs.lemmas.List.Elements.{Contains-append_left, Contains-get_or}
-use Rattle.cm_mtrace.specs.declared.item.Who.{Who}
-use Rattle.cm_mtrace.specs.declared.item.Kind.{Kind}
-use Rattle.cm_judge.specs.declared.summary.Cores.{Cores}
-use Rattle.cm_judge.specs.declared.table.Record.{Record}
-use Rattle.cm_judge.specs.Summary.{AreBoundsOf, cores_of, no_cores, Touches}
-use Rattle.cm_judge.proofs.Keeps.{blank_within, Keep-elsewhere, Keep-held, Keep-held_elsewhere, Keep-here, Replaces, Replaces-push, Replaces-set, wider_add}
+use Rattle.std.proofs.Common.{inr, refl}
+use Rattle.cm_judge.specs.Summary.{no_cores}
+use Rattle.cm_judge.proofs.Keeps.{blank_within, Keep-elsewhere, Keep-held, Keep-held_elsewhere, Keep-here, Replaces-push, Replaces-set}
 use Rattle.cm_judge.proofs.table.note.Goals as goal
 
 pub returns-in-Held-clause-here : goal.returns-in-Held-clause-here

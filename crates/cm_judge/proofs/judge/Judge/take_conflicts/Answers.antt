@@ -1,4 +1,3 @@
-use Rattle.std.proofs.Common.{rules}
 use Rattle.cm_judge.proofs.judge.Judge.take_conflicts.Goals as goal
 
 pub returns-clause-lines : goal.returns-clause-lines
