@@ -1,6 +1,5 @@
 -- Which statuses a run can end with.
-use Rattle.std.proofs.Common.{arith, ◌≡◌, ◌⊎◌, ◌<◌, ℕ, List, [], ◌∷◌, length, get_or, map, Option, Some, Bool, true, false, not, ap, sym, subst, refl, ◌∙◌, inl, inr, ◌≤◌}
-use Rattle.cm_mtrace.specs.Trace.{IsTrace, Section}
+use Rattle.std.proofs.Common.{arith, ◌≡◌, ◌<◌, ℕ, List, [], ◌∷◌, length, get_or, map, Option, Some, Bool, true, false, not, ap, sym, subst, refl, ◌∙◌, inl, inr, ◌≤◌}
 use Rattle.cm_top.specs.Command.{IsJudge, IsNoTrace, IsWithin}
 use Rattle.cm_top.specs.Fetch.{OfFile}
 use Rattle.cm_top.specs.Output.{IsEnd, IsWanted}

@@ -1,13 +1,11 @@
 -- What is wanted for a trace whose sections were judged.
-use Rattle.std.proofs.Common.{◌≡◌, ◌<◌, ◌≤◌, ◌⊎◌, ℕ, List, [], ◌∷◌, ◌++◌, length, map, drop, None, Some, Option, ap, sym, subst, refl, ◌∙◌, inl, inr}
+use Rattle.std.proofs.Common.{◌≡◌, ℕ, List, [], ◌∷◌, ◌++◌, map, None, Some, Option, ap, sym, subst, refl}
 use Rattle.std.specs.Io.KnownBytes.{Appends}
-use Rattle.std.specs.List.{AllZip}
-use Rattle.cm_judge.specs.Conflicts.{AreConflictLines}
-use Rattle.cm_mtrace.specs.Trace.{IsFirstBad, IsTrace, Section}
+use Rattle.cm_mtrace.specs.Trace.{IsFirstBad, Section}
 use Rattle.cm_mtrace.proofs.Bad.{trace_good}
-use Rattle.cm_top.specs.Command.{IsCutShort, IsJudged, IsNoTrace, IsRefusedAt, IsWithin}
+use Rattle.cm_top.specs.Command.{IsCutShort, IsJudged, IsRefusedAt, IsWithin}
 use Rattle.cm_top.specs.Fetch.{OfFile}
-use Rattle.cm_top.specs.Output.{AreAllConflicts, IsEnd, IsWanted, TakesFront, closing, header, joined, section_texts, status_of}
+use Rattle.cm_top.specs.Output.{AreAllConflicts, IsWanted, TakesFront, closing, header, joined, section_texts, status_of}
 use Rattle.cm_top.specs.Pieces.{piece_of, pieces_of}
 use Rattle.cm_top.specs.Run.{IsJudgedAs}
 use Rattle.cm_top.specs.Sections.{AreJudged}

@@ -1,14 +1,12 @@
 -- A run over a piece more.
-use Rattle.std.proofs.Common.{◌≡◌, ◌⊎◌, ℕ, ◌+◌, ◌<◌, List, [], ◌∷◌, ◌++◌, length, take, drop, get_or, None, Some, Option, Result, Ok, Err, IfOk, IfErr, IfSome, OnOk, ap, sym, subst, refl, ◌∙◌, inl, inr, append_assoc, add-one, drop-cons}
+use Rattle.std.proofs.Common.{◌≡◌, ℕ, ◌+◌, ◌<◌, List, [], ◌∷◌, ◌++◌, length, take, drop, get_or, Some, Option, Result, Err, IfSome, ap, sym, subst, refl, ◌∙◌, append_assoc, add-one, drop-cons}
 use Rattle.std.proofs.lemmas.List.{append-nil, take-append-drop, take_more}
-use Rattle.cm_mtrace.specs.Reader.{EndsBad, NamesFirst, Progress, StandsFor}
-use Rattle.cm_mtrace.specs.Trace.{GiveItems, IsFirstBad, Section, items_of, whole_lines}
+use Rattle.cm_mtrace.specs.Reader.{EndsBad, NamesFirst}
+use Rattle.cm_mtrace.specs.Trace.{IsFirstBad}
 use Rattle.cm_mtrace.specs.declared.Item.{Item}
 use Rattle.cm_mtrace.specs.declared.TraceFault.{TraceFault}
 use Rattle.cm_mtrace.specs.declared.TraceFault.TheVariants.{BadLine, Memory}
-use Rattle.cm_top.specs.Run.{GoesOn, HasRead, IsRefused, NamesBad}
-use Rattle.cm_top.specs.Sections.{Have}
-use Rattle.cm_top.specs.declared.run.Run.{Run}
+use Rattle.cm_top.specs.Run.{NamesBad}
 
 -- the items before one, that one, and those behind it
 pub around : (before its : List Item) (i : ℕ) (d : Item) → i < length its → before ++ its ≡ (before ++ take i its) ++ get_or its i d ∷ drop (i + 1) its

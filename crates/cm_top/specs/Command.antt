@@ -5,7 +5,7 @@ use Rattle.std.specs.Io.KnownBytes.{Appends}
 use Rattle.cm_io.specs.Causes.{Rose}
 use Rattle.cm_io.specs.Sink.{TakesPart}
 use Rattle.cm_mtrace.specs.Trace.{IsFirstBad, IsTrace, Section}
-use Rattle.cm_top.specs.Output.{IsEnd, IsWanted, TakesFront, joined}
+use Rattle.cm_top.specs.Output.{IsWanted, TakesFront, joined}
 use Rattle.cm_top.specs.declared.status.Status.{Status}
 use Rattle.cm_top.specs.declared.status.Status.TheVariants.{Done, Refused, Usage, ReadFault, WriteFault, Memory, Over, TooLong, Conflicts}
 use Rattle.cm_top.specs.declared.fetch.TheConstants.{LIMIT}

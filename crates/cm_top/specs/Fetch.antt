@@ -1,5 +1,5 @@
 -- A file as far as it was fetched, and as far as it is told.
-use Rattle.std.specs.Prelude.{◌≡◌, ◌⊎◌, ℕ, ◌<◌, ◌≤◌, List, [], length, take, ⊤, None, Some}
+use Rattle.std.specs.Prelude.{◌≡◌, ◌⊎◌, ℕ, ◌≤◌, List, [], length, take, ⊤, None, Some}
 use Rattle.std.specs.declared.option.Option.{Option}
 use Rattle.cm_top.specs.declared.stop.Stop.{Stop}
 use Rattle.cm_top.specs.declared.stop.Stop.TheVariants.{ReadFault, TooLong, Memory}

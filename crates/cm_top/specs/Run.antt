@@ -1,5 +1,5 @@
 -- A trace that is read and judged, as far as it came.
-use Rattle.std.specs.Prelude.{◌≡◌, ◌⊎◌, ℕ, ◌+◌, List, ◌++◌, length, Some, ⊤}
+use Rattle.std.specs.Prelude.{◌≡◌, ◌⊎◌, ℕ, ◌+◌, List, length, Some, ⊤}
 use Rattle.cm_mtrace.specs.Reader.{NamesFirst, StandsFor}
 use Rattle.cm_mtrace.specs.Trace.{GiveItems, IsFirstBad, IsTrace, Section, whole_lines}
 use Rattle.cm_mtrace.specs.declared.Item.{Item}

@@ -23,6 +23,7 @@ fn a_failed_put_leaves_the_pieces_before_and_what_it_took(rt: HostRuntime) -> Re
     for (at, piece) in PIECES.iter().enumerate() {
         let call = (at as u64).saturating_add(1);
         for takes in [0, 2, piece.len() - 1, piece.len()] {
+            assert!(rt; takes <= piece.len());
             let puts = [PutFail { call, takes }];
             let outside = Outside {
                 puts: &puts,

@@ -1,4 +1,4 @@
-use Rattle.std.proofs.Common.{subst, sym, ap, ◌∙◌, inr}
+use Rattle.std.proofs.Common.{subst, ap, ◌∙◌, inr}
 use Rattle.std.specs.Io.KnownBytes.{Appends}
 use Rattle.cm_top.specs.Output.{TakesFront, joined, status_of}
 use Rattle.cm_top.specs.Pieces.{pieces_of}

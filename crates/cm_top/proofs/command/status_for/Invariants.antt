@@ -1,4 +1,4 @@
-use Rattle.std.proofs.Common.{◌≡◌, drop, map}
+use Rattle.std.proofs.Common.{◌≡◌, drop}
 use Rattle.cm_top.specs.Output.{status_of}
 use Rattle.cm_top.proofs.Judgements.{lines_of_all}
 use Rattle.cm_top.proofs.command.status_for.Given as goal

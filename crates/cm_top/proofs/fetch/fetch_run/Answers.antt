@@ -1,5 +1,5 @@
-use Rattle.std.proofs.Common.{arith, ◌++◌, ◌≤◌, length, ap, subst, sym, ◌∙◌}
-use Rattle.cm_top.specs.Fetch.{HoldsBytes, HoldsFront, OfFile}
+use Rattle.std.proofs.Common.{arith, ◌++◌, length, ap, subst, sym, ◌∙◌}
+use Rattle.cm_top.specs.Fetch.{HoldsBytes, HoldsFront}
 use Rattle.cm_top.specs.Run.{HasRead}
 use Rattle.cm_top.specs.declared.fetch.TheConstants.{LIMIT}
 use Rattle.std.proofs.lemmas.List.{length-append}

@@ -1,4 +1,4 @@
-use Rattle.std.proofs.Common.{◌≡◌, ◌≤◌, ◌+◌, ◌-◌, List, ℕ, length}
+use Rattle.std.proofs.Common.{◌≡◌, ◌≤◌, ◌-◌, List, ℕ, length}
 use Rattle.cm_io.specs.Shelf.{NoneFalls, SameFiles}
 use Rattle.cm_top.specs.Fetch.{HoldsFront}
 use Rattle.cm_top.specs.Run.{HasRead, count_of}

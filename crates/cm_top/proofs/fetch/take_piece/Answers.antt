@@ -1,4 +1,4 @@
-use Rattle.std.proofs.Common.{arith, ap, subst, sym, ◌∙◌, take, length}
+use Rattle.std.proofs.Common.{arith, take}
 use Rattle.std.proofs.lemmas.List.{length-take}
 use Rattle.cm_top.proofs.Files.{front_more}
 use Rattle.cm_top.proofs.fetch.take_piece.Goals as goal

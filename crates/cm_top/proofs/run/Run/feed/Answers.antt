@@ -1,1 +1,0 @@
-use Rattle.cm_top.proofs.run.Run.feed.Goals as goal

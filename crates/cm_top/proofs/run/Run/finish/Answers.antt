@@ -1,4 +1,4 @@
-use Rattle.std.proofs.Common.{refl, inl, inr}
+use Rattle.std.proofs.Common.{inl, inr}
 use Rattle.cm_top.proofs.Runs.{ends_bad, refused_end, same_fault}
 use Rattle.cm_top.proofs.run.Run.finish.Goals as goal
 

@@ -1,4 +1,4 @@
-use Rattle.std.proofs.Common.{sym, subst, ◌∙◌, ◌++◌, ◌∷◌, []}
+use Rattle.std.proofs.Common.{sym, subst, ◌∙◌}
 use Rattle.cm_top.specs.Sections.{AreJudged, HaveFrom}
 use Rattle.cm_top.proofs.SectionSteps.{section_ends}
 use Rattle.cm_top.proofs.sections.Sections.end.Goals as goal
