@@ -1,10 +1,9 @@
-ghost use Rattle.std.specs.Prelude.{◌≡◌, ◌≢◌, ◌↔◌, [], ◌∷◌, ◌++◌, List, ℕ, ◌+◌, ◌*◌, ◌<◌, ◌≤◌, All, IfOk, OnOk, OnErr, vec_len, vec_capacity};
+ghost use Rattle.std.specs.Prelude.{◌≡◌, ◌≢◌, ◌↔◌, [], ◌∷◌, ◌++◌, List, ℕ, ◌+◌, ◌*◌, ◌%◌, ◌<◌, ◌≤◌, All, IfOk, OnOk, OnErr, vec_len, vec_capacity};
 ghost use Rattle.cm_mtrace.specs.Lines.{Covers, IsInRange};
 ghost use Rattle.cm_mtrace.specs.declared.item.Entry.{Entry};
 ghost use Rattle.cm_mtrace.specs.declared.item.Who.TheVariants.{Other};
 ghost use Rattle.cm_judge.specs.Conflicts.{AreConflictLines};
-ghost use Rattle.cm_judge.specs.Judge.{KeepWhat, SameButBlank, StandsFor};
-ghost use Rattle.cm_judge.specs.Summary.{IsBlank};
+ghost use Rattle.cm_judge.specs.Judge.{KeepWhat, SameRecords, StandsFor};
 ghost use Rattle.cm_judge.specs.declared.table.Record.{Record};
 
 use crate::grow::{grown, has_one_each};
@@ -26,7 +25,7 @@ fn make_room(
     held: usize,
     limit: &mut usize,
 ) -> Result<(), NoMemory>
-    ensures ok { OnOk result (SameButBlank slots.old.items slots.new.items) }
+    ensures ok { OnOk result (SameRecords slots.old.items slots.new.items) }
     ensures err { OnErr result (slots.new.items ≡ slots.old.items) }
 {
     if held < *limit {
@@ -90,22 +89,22 @@ fn conflicts(alloc: Global, slots: &[Record], spill: &[Record]) -> Result<Vec<u6
     conflict_lines(alloc, records.as_slice())
 }
 
-fn blank_all(slots: &mut [Record])
-    ensures { All (λ (r : Record). IsBlank r.summary) slots.new }
+fn free_all(slots: &mut [Record])
+    ensures { All (λ (r : Record). r.line % 64 ≢ 0) slots.new }
 {
     for slot in slots.iter_mut() {
-        *slot = Record::blank();
+        *slot = Record::free();
     }
 }
 
 // Empties the table, and gives it back where it is much larger than what it held.
 fn clear(alloc: Global, slots: &mut Vec<Record>, held: usize)
-    ensures { All (λ (r : Record). IsBlank r.summary) slots.new.items }
+    ensures { All (λ (r : Record). r.line % 64 ≢ 0) slots.new.items }
 {
     if slots.len() / 16 > held.saturating_add(64) {
         *slots = Vec::new(alloc);
     } else {
-        blank_all(slots.as_mut_slice());
+        free_all(slots.as_mut_slice());
     }
 }
 
