@@ -1,4 +1,4 @@
-ghost use Rattle.std.specs.Prelude.{◌≡◌, ◌≢◌, ◌↔◌, [], ◌∷◌, ◌++◌, List, ℕ, ◌+◌, ◌*◌, ◌%◌, ◌<◌, ◌≤◌, All, IfOk, OnOk, OnErr, vec_len, vec_capacity};
+ghost use Rattle.std.specs.Prelude.{◌≡◌, ◌≢◌, ◌↔◌, [], ◌∷◌, ◌++◌, List, ℕ, ◌+◌, ◌*◌, ◌%◌, ◌<◌, ◌≤◌, All, IsTrue, false, IfOk, OnOk, OnErr, vec_len, vec_capacity};
 ghost use Rattle.cm_mtrace.specs.Lines.{Covers, IsInRange};
 ghost use Rattle.cm_mtrace.specs.declared.item.Entry.{Entry};
 ghost use Rattle.cm_mtrace.specs.declared.item.Who.TheVariants.{Other};
@@ -9,7 +9,7 @@ ghost use Rattle.cm_judge.specs.declared.table.Record.{Record};
 use crate::grow::{grown, has_one_each};
 use crate::line::{Lines, lines_of};
 use crate::merge::{conflict_lines, merged};
-use crate::table::{Record, WINDOW, note};
+use crate::table::{Place, Record, WINDOW, note, place_for};
 use cm_model::{List, NoMemory};
 use cm_mtrace::{Entry, Who};
 use std::alloc::Global;
@@ -58,6 +58,27 @@ fn note_lines(
     for k in 0..lines.count {
         let line = lines.first + 64 * u64::from(k);
         note(slots, spill, held, line, e);
+    }
+}
+
+// Adds an access of one line to what is kept of it, where the table has that line. This is what most
+// accesses are.
+#[inline(always)]
+fn note_known(slots: &mut [Record], lines: Lines, e: &Entry) -> bool
+    requires judged { e.now.who ≢ Other }
+    requires lines { (line : ℕ) → Covers e.now line ↔ ((k : ℕ) × (k < lines.count) × (line ≡ lines.first + 64 * k)) }
+    ensures known { IsTrue result → (spill : List Record) (entries : List Entry) → StandsFor (slots.old ++ spill) entries → StandsFor (slots.new ++ spill) (entries ++ e.now ∷ []) }
+    ensures unknown { result ≡ false → slots.new ≡ slots.old }
+{
+    if lines.count != 1 {
+        return false;
+    }
+    match place_for(slots, lines.first) {
+        Place::Held(k) => {
+            slots[k].summary.add(e);
+            true
+        }
+        Place::Free(_) | Place::Nowhere => false,
     }
 }
 
@@ -156,6 +177,20 @@ impl Judge {
             return Ok(());
         }
         let lines = lines_of(e);
+        if note_known(self.slots.as_mut_slice(), lines, e) {
+            return Ok(());
+        }
+        self.add_lines(lines, e)
+    }
+
+    #[inline(never)]
+    fn add_lines(&mut self, lines: Lines, e: &Entry) -> Result<(), NoMemory>
+        requires judged { e.now.who ≢ Other }
+        requires lines { (line : ℕ) → Covers e.now line ↔ ((k : ℕ) × (k < lines.count) × (line ≡ lines.first + 64 * k)) }
+        requires range { IsInRange e.now }
+        ensures ok { OnOk result ((entries : List Entry) → StandsFor self.old entries → StandsFor self.new (entries ++ e.now ∷ [])) }
+        ensures err { OnErr result (self.new ≡ self.old) }
+    {
         self.spill.reserve(usize::from(lines.count))?;
         make_room(self.alloc, &mut self.slots, self.held, &mut self.limit)?;
         note_lines(
