@@ -15,7 +15,7 @@ use Rattle.cm_judge.specs.declared.summary.Cores.{Cores}
 use Rattle.cm_judge.specs.declared.summary.LineSummary.{LineSummary}
 use Rattle.cm_judge.specs.declared.table.Record.{Record}
 use Rattle.cm_judge.specs.Judge.{KeepLine}
-use Rattle.cm_judge.specs.Summary.{AreBoundsOf, cores_of, IsAccess, IsWithin, no_cores, Touches, with_core}
+use Rattle.cm_judge.specs.Summary.{AreBoundsOf, cores_of, IsAccess, IsWithin, Touches, with_core}
 
 pub any_of : {X : Type 0} (P : X → Type 0) (xs : List X) (x : X) → Contains xs x → P x → Any P xs
 any_of P xs x has p = (has.0, x, has.1, has.2, p)

@@ -1,4 +1,4 @@
-use Rattle.std.proofs.Common.{arith, ◌≡◌, ◌↔◌, ℕ, ◌+◌, ◌*◌, ◌%◌, List, ◌++◌, ◌∷◌, [], refl, subst, sym}
+use Rattle.std.proofs.Common.{arith, ◌≡◌, ◌↔◌, ℕ, ◌%◌, List, ◌++◌, ◌∷◌, [], subst}
 use Rattle.cm_mtrace.specs.Lines.{Covers}
 use Rattle.cm_mtrace.specs.declared.item.Entry.{Entry}
 use Rattle.cm_judge.specs.declared.table.Record.{Record}

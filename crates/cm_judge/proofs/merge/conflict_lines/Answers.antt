@@ -1,4 +1,4 @@
-use Rattle.std.proofs.Common.{List, eqb, sym, subst, ◌∙◌}
+use Rattle.std.proofs.Common.{List, eqb, subst}
 use Rattle.std.proofs.lemmas.Bool.{iff_false}
 use Rattle.std.proofs.lemmas.List.{take_all}
 use Rattle.std.proofs.lemmas.List.Filters.{dedup_is}

@@ -1,10 +1,7 @@
-use denote.Enum.Bare.{same_true}
-use Rattle.cm_mtrace.specs.contracts.item.Who.{the_type}
 use Rattle.std.proofs.lemmas.List.{with_items_is}
 use Rattle.cm_judge.specs.Judge.{KeepLine}
-use Rattle.std.proofs.Common.{◌≡◌, ℕ, ◌%◌, ◌++◌, ◌∷◌, [], rules, sym, ◌∙◌}
+use Rattle.std.proofs.Common.{◌≡◌, ℕ, ◌%◌, ◌++◌, ◌∷◌, [], ◌∙◌}
 use Rattle.cm_judge.proofs.Merges.{Keep-same}
-use Rattle.cm_judge.proofs.Notes.{stands_other}
 use Rattle.cm_judge.proofs.judge.Judge.add_lines.Goals as goal
 
 pub returns-clause-ok : goal.returns-clause-ok
