@@ -1,9 +1,9 @@
 -- What the records keep, as records are written and added.
-use Rattle.std.proofs.Common.{arith, ◌≡◌, ◌≢◌, ◌⊎◌, ◌↔◌, ℕ, ◌<◌, ◌≤◌, List, [], ◌∷◌, ◌++◌, length, get_or, refl, sym, ap, ◌∙◌, subst, inl, inr, min, max}
+use Rattle.std.proofs.Common.{arith, ◌≡◌, ◌≢◌, ◌⊎◌, ◌↔◌, ℕ, ◌%◌, ◌<◌, ◌≤◌, List, [], ◌∷◌, ◌++◌, length, get_or, refl, sym, ap, ◌∙◌, subst, inl, inr, min, max}
 use Rattle.std.specs.List.{Any, Contains}
 use Rattle.std.proofs.Math.ListN.{set, length-set}
 use Rattle.std.proofs.lemmas.Bool.{cases_eq, cases_lt}
-use Rattle.std.proofs.lemmas.List.{get_or_default, get_or_past, get_or-set_same, get_or-set_other}
+use Rattle.std.proofs.lemmas.List.{get_or_default, get_or-set_same, get_or-set_other}
 use Rattle.std.proofs.lemmas.List.Elements.{Contains-append_left, Contains-append_right, Contains-append_cases, Contains-get_or, Contains-push, Contains-push_cases}
 use Rattle.cm_mtrace.specs.Lines.{Covers}
 use Rattle.cm_mtrace.specs.declared.item.Entry.{Entry}
@@ -15,7 +15,7 @@ use Rattle.cm_judge.specs.declared.summary.Cores.{Cores}
 use Rattle.cm_judge.specs.declared.summary.LineSummary.{LineSummary}
 use Rattle.cm_judge.specs.declared.table.Record.{Record}
 use Rattle.cm_judge.specs.Judge.{KeepLine}
-use Rattle.cm_judge.specs.Summary.{AreBoundsOf, cores_of, IsAccess, IsBlank, IsWithin, no_cores, place, Touches, with_core}
+use Rattle.cm_judge.specs.Summary.{AreBoundsOf, cores_of, IsAccess, IsWithin, Touches, with_core}
 
 pub any_of : {X : Type 0} (P : X → Type 0) (xs : List X) (x : X) → Contains xs x → P x → Any P xs
 any_of P xs x has p = (has.0, x, has.1, has.2, p)
@@ -96,7 +96,7 @@ same_access w k x m =
 pub record Replaces (before after : List Record) (r : Record) : Type 0 where
   pub from : (q : Record) → Contains after q → Contains before q ⊎ (q ≡ r)
   pub has : Contains after r
-  pub kept : (q : Record) → Contains before q → Contains after q ⊎ ((who : Who) (kind : Kind) (core : ℕ) → who ≢ Other → IsWithin (cores_of q.summary who kind) core → (q.line ≡ r.line) × IsWithin (cores_of r.summary who kind) core)
+  pub kept : (q : Record) → Contains before q → q.line % 64 ≡ 0 → Contains after q ⊎ ((who : Who) (kind : Kind) (core : ℕ) → who ≢ Other → IsWithin (cores_of q.summary who kind) core → (q.line ≡ r.line) × IsWithin (cores_of r.summary who kind) core)
 
 touches_more : (entries : List Entry) (e : Entry) (who : Who) (kind : Kind) (line core : ℕ) → Touches entries who kind line core → Touches (entries ++ e ∷ []) who kind line core
 touches_more entries e who kind line core t = (Any-more (λ x. IsAccess x who kind line core) entries e).1 (inl t)
@@ -115,7 +115,7 @@ set_kept xs k r d q within has =
       | inr apart ↦ inl (has.0, omega (arith, has.1, length-set xs k r), get_or-set_other xs k has.0 r q apart ∙ has.2)
     ]
 
-pub Replaces-set : (slots rest : List Record) (k : ℕ) (r d : Record) → k < length slots → ((who : Who) (kind : Kind) (core : ℕ) → who ≢ Other → IsWithin (cores_of (get_or slots k d).summary who kind) core → ((get_or slots k d).line ≡ r.line) × IsWithin (cores_of r.summary who kind) core) → Replaces (slots ++ rest) (set slots k r ++ rest) r
+pub Replaces-set : (slots rest : List Record) (k : ℕ) (r d : Record) → k < length slots → ((get_or slots k d).line % 64 ≡ 0 → (who : Who) (kind : Kind) (core : ℕ) → who ≢ Other → IsWithin (cores_of (get_or slots k d).summary who kind) core → ((get_or slots k d).line ≡ r.line) × IsWithin (cores_of r.summary who kind) core) → Replaces (slots ++ rest) (set slots k r ++ rest) r
 Replaces-set slots rest k r d within wider =
     record {
       from = λ q has. elim (Contains-append_cases (set slots k r) rest q has) [
@@ -123,11 +123,11 @@ Replaces-set slots rest k r d within wider =
         | inr s ↦ inl (Contains-append_right slots rest q s)
       ];
       has = Contains-append_left (set slots k r) rest r (k, omega (arith, within, length-set slots k r), get_or-set_same slots k r r within);
-      kept = λ q has. elim (Contains-append_cases slots rest q has) [
+      kept = λ q has aligned. elim (Contains-append_cases slots rest q has) [
         | inl s ↦ elim (set_kept slots k r d q within s) [
           | inl still ↦ inl (Contains-append_left (set slots k r) rest q still)
           | inr gone ↦ inr (λ who kind core judged is. (
-              let w = wider who kind core judged (subst (λ (x : Record). IsWithin (cores_of x.summary who kind) core) gone is) in
+              let w = wider (subst (λ (x : Record). x.line % 64 ≡ 0) gone aligned) who kind core judged (subst (λ (x : Record). IsWithin (cores_of x.summary who kind) core) gone is) in
               (ap (λ (x : Record). x.line) gone ∙ w.0, w.1)
               ))
         ]
@@ -143,7 +143,7 @@ Replaces-push slots rest r =
         | inr s ↦ elim (Contains-push_cases rest r q s) [ inl old ↦ inl (Contains-append_right slots rest q old) | inr same ↦ inr (sym same) ]
       ];
       has = Contains-append_right slots (rest ++ r ∷ []) r (Contains-push rest r);
-      kept = λ q has. inl (elim (Contains-append_cases slots rest q has) [
+      kept = λ q has aligned. inl (elim (Contains-append_cases slots rest q has) [
         | inl s ↦ Contains-append_left slots (rest ++ r ∷ []) q s
         | inr s ↦ Contains-append_right slots (rest ++ r ∷ []) q (Contains-append_left rest (r ∷ []) q s)
       ]);
@@ -159,19 +159,6 @@ wider_add s t e own others who kind core h =
           subst (λ (w : Who). IsWithin (cores_of t w kind) core) (sym same.0) (subst (λ (k : Kind). IsWithin (cores_of t e.who k) core) (sym same.1) now)
       | inr apart ↦ subst (λ (c : Cores). IsWithin c core) (sym (others who kind apart)) h
     ]
-
-pub blank_cores : (s : LineSummary) (who : Who) (kind : Kind) → IsBlank s → cores_of s who kind ≡ no_cores
-blank_cores s who kind blank =
-    elim (cases_lt (place who kind) (length s.cores)) [
-      | inl below ↦ blank (place who kind) no_cores below
-      | inr past ↦ get_or_past s.cores (place who kind) no_cores past
-    ]
-
--- nothing is within what a blank summary has
-pub blank_within : (s : LineSummary) (who : Who) (kind : Kind) (core : ℕ) → IsBlank s → IsWithin (cores_of s who kind) core → ⊥
-blank_within s who kind core blank h =
-    let w : IsWithin no_cores core = subst (λ (c : Cores). IsWithin c core) (blank_cores s who kind blank) h in
-    omega (arith, w.above, w.below)
 
 -- an access of the record's line
 pub Keep-here : (before after : List Record) (r : Record) (entries : List Entry) (e : Entry) (line : ℕ) → r.line ≡ line → Replaces before after r → Covers e line → e.core ≤ 65535
@@ -190,7 +177,7 @@ Keep-here before after r entries e line is_line step covers small own others h =
     ] in
     let old_within : (who : Who) (kind : Kind) (core : ℕ) → who ≢ Other → Touches entries who kind line core → Any (λ (q : Record). (q.line ≡ line) × IsWithin (cores_of q.summary who kind) core) after = λ who kind core judged t. (
     let a = h.within who kind core judged t in
-    elim (step.kept a.1 (a.0, a.2, a.3)) [
+    elim (step.kept a.1 (a.0, a.2, a.3) (subst (λ n. n % 64 ≡ 0) (sym a.4.0) covers.aligned)) [
       | inl still ↦ any_of (λ (q : Record). (q.line ≡ line) × IsWithin (cores_of q.summary who kind) core) after a.1 still a.4
       | inr wider ↦ any_of (λ (q : Record). (q.line ≡ line) × IsWithin (cores_of q.summary who kind) core) after r step.has (is_line, (wider who kind core judged a.4.1).1)
     ]
@@ -207,8 +194,8 @@ Keep-here before after r entries e line is_line step covers small own others h =
     }
 
 -- the other lines stay
-pub Keep-elsewhere : (before after : List Record) (r : Record) (entries : List Entry) (other : ℕ) → Replaces before after r → (other ≢ r.line) → KeepLine before entries other → KeepLine after entries other
-Keep-elsewhere before after r entries other step apart h =
+pub Keep-elsewhere : (before after : List Record) (r : Record) (entries : List Entry) (other : ℕ) → other % 64 ≡ 0 → Replaces before after r → (other ≢ r.line) → KeepLine before entries other → KeepLine after entries other
+Keep-elsewhere before after r entries other aligned step apart h =
     record {
       bounds = λ q has is who kind judged. elim (step.from q has) [
         | inl old ↦ h.bounds q old is who kind judged
@@ -216,7 +203,7 @@ Keep-elsewhere before after r entries other step apart h =
       ];
       within = λ who kind core judged t. (
           let a = h.within who kind core judged t in
-          elim (step.kept a.1 (a.0, a.2, a.3)) [
+          elim (step.kept a.1 (a.0, a.2, a.3) (subst (λ n. n % 64 ≡ 0) (sym a.4.0) aligned)) [
             | inl still ↦ any_of (λ (q : Record). (q.line ≡ other) × IsWithin (cores_of q.summary who kind) core) after a.1 still a.4
             | inr wider ↦ absurd (apart (sym a.4.0 ∙ (wider who kind core judged a.4.1).0))
           ]
@@ -228,7 +215,7 @@ held_replaces : (slots rest : List Record) (k : ℕ) (d : Record) (e : Entry) (s
     → ((who : Who) (kind : Kind) → (who ≢ e.who) ⊎ (kind ≢ e.kind) → cores_of s who kind ≡ cores_of (get_or slots k d).summary who kind)
     → Replaces (slots ++ rest) (set slots k record { line = (get_or slots k d).line; summary = s } ++ rest) record { line = (get_or slots k d).line; summary = s }
 held_replaces slots rest k d e s within own others =
-    Replaces-set slots rest k record { line = (get_or slots k d).line; summary = s } d within (λ who kind core judged is. (refl, wider_add (get_or slots k d).summary s e own others who kind core is))
+    Replaces-set slots rest k record { line = (get_or slots k d).line; summary = s } d within (λ aligned who kind core judged is. (refl, wider_add (get_or slots k d).summary s e own others who kind core is))
 
 -- an access of the line that a slot has
 pub Keep-held : (slots rest : List Record) (k line : ℕ) (d : Record) (e : Entry) (s : LineSummary) → k < length slots → (get_or slots k d).line ≡ line → Covers e line → e.who ≢ Other → e.core ≤ 65535
@@ -247,6 +234,6 @@ Keep-held slots rest k line d e s within is covers judged small own others entri
 pub Keep-held_elsewhere : (slots rest : List Record) (k line : ℕ) (d : Record) (e : Entry) (s : LineSummary) → k < length slots → (get_or slots k d).line ≡ line
     → cores_of s e.who e.kind ≡ with_core (cores_of (get_or slots k d).summary e.who e.kind) e.core
     → ((who : Who) (kind : Kind) → (who ≢ e.who) ⊎ (kind ≢ e.kind) → cores_of s who kind ≡ cores_of (get_or slots k d).summary who kind)
-    → (entries : List Entry) (other : ℕ) → other ≢ line → KeepLine (slots ++ rest) entries other → KeepLine (set slots k record { line = (get_or slots k d).line; summary = s } ++ rest) entries other
-Keep-held_elsewhere slots rest k line d e s within is own others entries other apart h =
-    Keep-elsewhere (slots ++ rest) (set slots k record { line = (get_or slots k d).line; summary = s } ++ rest) record { line = (get_or slots k d).line; summary = s } entries other (held_replaces slots rest k d e s within own others) (λ same. apart (same ∙ is)) h
+    → (entries : List Entry) (other : ℕ) → other % 64 ≡ 0 → other ≢ line → KeepLine (slots ++ rest) entries other → KeepLine (set slots k record { line = (get_or slots k d).line; summary = s } ++ rest) entries other
+Keep-held_elsewhere slots rest k line d e s within is own others entries other aligned apart h =
+    Keep-elsewhere (slots ++ rest) (set slots k record { line = (get_or slots k d).line; summary = s } ++ rest) record { line = (get_or slots k d).line; summary = s } entries other aligned (held_replaces slots rest k d e s within own others) (λ same. apart (same ∙ is)) h

@@ -1,5 +1,5 @@
 -- The lines of an access, noted one after another.
-use Rattle.std.proofs.Common.{arith, ◌≡◌, ◌≢◌, ◌⊎◌, ◌↔◌, ℕ, ◌+◌, ◌-◌, ◌*◌, ◌/◌, ◌<◌, List, [], ◌∷◌, ◌++◌, sym, ◌∙◌, subst, inl, inr}
+use Rattle.std.proofs.Common.{arith, ◌≡◌, ◌≢◌, ◌⊎◌, ◌↔◌, ℕ, ◌+◌, ◌-◌, ◌*◌, ◌/◌, ◌%◌, ◌<◌, List, [], ◌∷◌, ◌++◌, ap, sym, ◌∙◌, subst, inl, inr}
 use Rattle.std.specs.List.{All}
 use Rattle.std.proofs.lemmas.Bool.{cases_eq, cases_lt}
 use Rattle.std.proofs.lemmas.List.Elements.{All-contains}
@@ -10,8 +10,8 @@ use Rattle.cm_mtrace.specs.declared.item.Who.TheVariants.{Other}
 use Rattle.cm_mtrace.specs.declared.item.Kind.{Kind}
 use Rattle.cm_judge.specs.declared.table.Record.{Record}
 use Rattle.cm_judge.specs.Judge.{KeepLine, StandsFor}
-use Rattle.cm_judge.specs.Summary.{cores_of, IsAccess, IsBlank, Touches}
-use Rattle.cm_judge.proofs.Keeps.{Any-more, blank_cores}
+use Rattle.cm_judge.specs.Summary.{cores_of, IsAccess, Touches}
+use Rattle.cm_judge.proofs.Keeps.{Any-more}
 
 -- the line is one of the first so many
 abbrev pub IsOneOf : ℕ → ℕ → ℕ → Type 0
@@ -19,30 +19,30 @@ IsOneOf first k line = (j : ℕ) × (j < k) × (line ≡ first + 64 * j)
 
 -- the access was added at its first so many lines, and nowhere else
 pub record IsNoted (before after : List Record) (first k : ℕ) (e : Entry) : Type 0 where
-  pub done : (entries : List Entry) (line : ℕ) → IsOneOf first k line → KeepLine before entries line → KeepLine after (entries ++ e ∷ []) line
-  pub ahead : (entries : List Entry) (line : ℕ) → (IsOneOf first k line → ⊥) → KeepLine before entries line → KeepLine after entries line
+  pub done : (entries : List Entry) (line : ℕ) → line % 64 ≡ 0 → IsOneOf first k line → KeepLine before entries line → KeepLine after (entries ++ e ∷ []) line
+  pub ahead : (entries : List Entry) (line : ℕ) → line % 64 ≡ 0 → (IsOneOf first k line → ⊥) → KeepLine before entries line → KeepLine after entries line
 
 pub noted_none : (records : List Record) (first : ℕ) (e : Entry) → IsNoted records records first 0 e
 noted_none records first e =
     record {
-      done = λ entries line is h. absurd (omega (arith, is.1));
-      ahead = λ entries line not h. h;
+      done = λ entries line aligned is h. absurd (omega (arith, is.1));
+      ahead = λ entries line aligned not h. h;
     }
 
 pub noted_more : (before now after : List Record) (first k here : ℕ) (e : Entry) → here ≡ first + 64 * k
     → ((entries : List Entry) → KeepLine now entries here → KeepLine after (entries ++ e ∷ []) here)
-    → ((entries : List Entry) (other : ℕ) → other ≢ here → KeepLine now entries other → KeepLine after entries other)
+    → ((entries : List Entry) (other : ℕ) → other % 64 ≡ 0 → other ≢ here → KeepLine now entries other → KeepLine after entries other)
     → IsNoted before now first k e → IsNoted before after first (k + 1) e
 noted_more before now after first k here e is at_here elsewhere h =
     record {
-      done = λ entries line one b. elim (cases_lt one.0 k) [
-        | inl below ↦ elsewhere (entries ++ e ∷ []) line (λ same. omega (arith, same, is, one.2, below)) (h.done entries line (one.0, below, one.2) b)
+      done = λ entries line aligned one b. elim (cases_lt one.0 k) [
+        | inl below ↦ elsewhere (entries ++ e ∷ []) line aligned (λ same. omega (arith, same, is, one.2, below)) (h.done entries line aligned (one.0, below, one.2) b)
         | inr above ↦
             let same : here ≡ line = omega (arith, is, one.1, one.2, above) in
             let b_here : KeepLine before entries here = subst (λ n. KeepLine before entries n) (sym same) b in
-            subst (λ n. KeepLine after (entries ++ e ∷ []) n) same (at_here entries (h.ahead entries here (λ o. omega (arith, is, o.1, o.2)) b_here))
+            subst (λ n. KeepLine after (entries ++ e ∷ []) n) same (at_here entries (h.ahead entries here (ap (λ n. n % 64) same ∙ aligned) (λ o. omega (arith, is, o.1, o.2)) b_here))
       ];
-      ahead = λ entries line not b. elsewhere entries line (λ same. not (k, omega arith, same ∙ is)) (h.ahead entries line (λ o. not (o.0, omega (arith, o.1), o.2)) b);
+      ahead = λ entries line aligned not b. elsewhere entries line aligned (λ same. not (k, omega arith, same ∙ is)) (h.ahead entries line aligned (λ o. not (o.0, omega (arith, o.1), o.2)) b);
     }
 
 one_of : (first count line : ℕ) → IsOneOf first count line ⊎ (IsOneOf first count line → ⊥)
@@ -75,20 +75,20 @@ Keep-untouched records entries e line apart h =
 
 -- all lines are noted
 pub noted_all : (before after : List Record) (first count : ℕ) (e : Entry) → ((line : ℕ) → Covers e line ↔ IsOneOf first count line) → IsNoted before after first count e → (entries : List Entry) → StandsFor before entries → StandsFor after (entries ++ e ∷ [])
-noted_all before after first count e lines h entries stands line =
+noted_all before after first count e lines h entries stands line aligned =
     elim (one_of first count line) [
-      | inl one ↦ h.done entries line one (stands line)
-      | inr not ↦ Keep-untouched after entries e line (λ who kind core judged a. not ((lines line).0 a.covers)) (h.ahead entries line not (stands line))
+      | inl one ↦ h.done entries line aligned one (stands line aligned)
+      | inr not ↦ Keep-untouched after entries e line (λ who kind core judged a. not ((lines line).0 a.covers)) (h.ahead entries line aligned not (stands line aligned))
     ]
 
 -- an entry of neither call changes nothing
 pub stands_other : (records : List Record) (entries : List Entry) (e : Entry) → e.who ≡ Other → StandsFor records entries → StandsFor records (entries ++ e ∷ [])
-stands_other records entries e other stands line = Keep-untouched records entries e line (λ who kind core judged a. judged (sym a.who_is ∙ other)) (stands line)
+stands_other records entries e other stands line aligned = Keep-untouched records entries e line (λ who kind core judged a. judged (sym a.who_is ∙ other)) (stands line aligned)
 
--- blank records stand for no entries
-pub stands_blank : (records : List Record) → All (λ (r : Record). IsBlank r.summary) records → StandsFor records []
-stands_blank records blank line =
+-- free records stand for no entries
+pub stands_free : (records : List Record) → All (λ (r : Record). r.line % 64 ≢ 0) records → StandsFor records []
+stands_free records free line aligned =
     record {
-      bounds = λ r has is who kind judged. inr (blank_cores r.summary who kind (All-contains (λ (x : Record). IsBlank x.summary) records r blank has));
+      bounds = λ r has is who kind judged. absurd (All-contains (λ (x : Record). x.line % 64 ≢ 0) records r free has (ap (λ n. n % 64) is ∙ aligned));
       within = λ who kind core judged t. absurd (omega (arith, t.2));
     }

@@ -1,12 +1,11 @@
 -- The same records, as one after another is put into a new table.
-use Rattle.std.proofs.Common.{arith, ◌≡◌, ◌⊎◌, ℕ, ◌+◌, ◌<◌, List, [], ◌∷◌, ◌++◌, length, take, get_or, sym, subst, inl, inr}
+use Rattle.std.proofs.Common.{arith, ◌≡◌, ◌≢◌, ◌%◌, ◌⊎◌, ℕ, ◌+◌, ◌<◌, List, [], ◌∷◌, ◌++◌, length, take, get_or, sym, subst, inl, inr}
 use Rattle.std.specs.List.{Contains}
 use Rattle.std.proofs.Math.ListN.{set, length-set}
 use Rattle.std.proofs.lemmas.List.{take_more, get_or-set_same}
 use Rattle.std.proofs.lemmas.List.Elements.{Contains-append_left, Contains-push, Contains-push_cases}
 use Rattle.cm_judge.specs.declared.table.Record.{Record}
-use Rattle.cm_judge.specs.Judge.{SameButBlank}
-use Rattle.cm_judge.specs.Summary.{IsBlank}
+use Rattle.cm_judge.specs.Judge.{SameRecords}
 use Rattle.cm_judge.proofs.Keeps.{set_from, set_kept}
 
 one_more : (xs : List Record) (i : ℕ) (d q : Record) → i < length xs → Contains (take (i + 1) xs) q → Contains (take i xs) q ⊎ (q ≡ get_or xs i d)
@@ -20,18 +19,18 @@ still xs i d q within has = subst (λ (l : List Record). Contains l q) (sym (tak
 the_last : (xs : List Record) (i : ℕ) (d : Record) → i < length xs → Contains (take (i + 1) xs) (get_or xs i d)
 the_last xs i d within = subst (λ (l : List Record). Contains l (get_or xs i d)) (sym (take_more xs i d within)) (Contains-push (take i xs) (get_or xs i d))
 
-pub Same-skip : (before after : List Record) (i : ℕ) (d : Record) → i < length before → IsBlank (get_or before i d).summary → SameButBlank (take i before) after → SameButBlank (take (i + 1) before) after
-Same-skip before after i d within blank h =
+pub Same-skip : (before after : List Record) (i : ℕ) (d : Record) → i < length before → (get_or before i d).line % 64 ≢ 0 → SameRecords (take i before) after → SameRecords (take (i + 1) before) after
+Same-skip before after i d within free h =
     record {
       from = λ r has. elim (h.from r has) [ inl old ↦ inl (still before i d r within old) | inr b ↦ inr b ];
       kept = λ r has. elim (one_more before i d r within has) [
         | inl old ↦ h.kept r old
-        | inr same ↦ inr (subst (λ (x : Record). IsBlank x.summary) (sym same) blank)
+        | inr same ↦ inr (subst (λ (x : Record). x.line % 64 ≢ 0) (sym same) free)
       ];
     }
 
-pub Same-put : (before after : List Record) (i k : ℕ) (d f : Record) → i < length before → k < length after → IsBlank (get_or after k f).summary → SameButBlank (take i before) after → SameButBlank (take (i + 1) before) (set after k (get_or before i d))
-Same-put before after i k d f within slot blank h =
+pub Same-put : (before after : List Record) (i k : ℕ) (d f : Record) → i < length before → k < length after → (get_or after k f).line % 64 ≢ 0 → SameRecords (take i before) after → SameRecords (take (i + 1) before) (set after k (get_or before i d))
+Same-put before after i k d f within slot free h =
     let r = get_or before i d in
     record {
       from = λ q has. elim (set_from after k r q slot has) [
@@ -40,7 +39,7 @@ Same-put before after i k d f within slot blank h =
       ];
       kept = λ q has. elim (one_more before i d q within has) [
         | inl old ↦ elim (h.kept q old) [
-          | inl now ↦ elim (set_kept after k r f q slot now) [ inl c ↦ inl c | inr gone ↦ inr (subst (λ (x : Record). IsBlank x.summary) (sym gone) blank) ]
+          | inl now ↦ elim (set_kept after k r f q slot now) [ inl c ↦ inl c | inr gone ↦ inr (subst (λ (x : Record). x.line % 64 ≢ 0) (sym gone) free) ]
           | inr b ↦ inr b
         ]
         | inr same ↦ inl (subst (λ (x : Record). Contains (set after k r) x) (sym same) (k, omega (arith, slot, length-set after k r), get_or-set_same after k r r slot))

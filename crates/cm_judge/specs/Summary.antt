@@ -1,5 +1,5 @@
 -- What is kept of the accesses to one cache line.
-use Rattle.std.specs.Prelude.{◌≡◌, ◌≢◌, ◌⊎◌, ℕ, ◌≤◌, List, All, Any, if◌then◌else◌, nat_lt, min, max, slice_index_or}
+use Rattle.std.specs.Prelude.{◌≡◌, ◌≢◌, ◌⊎◌, ℕ, ◌≤◌, List, Any, if◌then◌else◌, nat_lt, min, max, slice_index_or}
 use Rattle.cm_mtrace.specs.Lines.{Covers}
 use Rattle.cm_mtrace.specs.declared.item.Entry.{Entry}
 use Rattle.cm_mtrace.specs.declared.item.Who.{Who}
@@ -40,10 +40,6 @@ place Other _ = 4
 -- the cores that a summary has of the accesses of a mark and kind
 abbrev pub cores_of : LineSummary → Who → Kind → Cores
 cores_of s who kind = slice_index_or s.cores (place who kind) no_cores
-
--- no core of any access is kept
-abbrev pub IsBlank : LineSummary → Type 0
-IsBlank s = All (λ c. c ≡ no_cores) s.cores
 
 -- the cores are the bounds of those that are so: the least and the greatest are so, or there is none
 abbrev pub AreBoundsOf : Cores → (ℕ → Type 0) → Type 0

@@ -3,7 +3,6 @@ use Rattle.std.specs.Prelude.{◌≡◌, ◌≢◌, ℕ, ◌-◌, ◌*◌, ◌/�
 use Rattle.cm_judge.specs.declared.table.Record.{Record}
 use Rattle.cm_judge.specs.declared.table.Place.{Place}
 use Rattle.cm_judge.specs.declared.table.Place.TheVariants.{Held, Free, Nowhere}
-use Rattle.cm_judge.specs.Summary.{IsBlank}
 
 -- the first slot that may have the line, of so many slots
 unfoldable pub first_slot : ℕ → ℕ → ℕ
@@ -16,8 +15,8 @@ pub record HoldsFirst (slots : List Record) (line k : ℕ) : Type 0 where
   pub here : (d : Record) → (slice_index_or slots k d).line ≡ line
   pub not_before : (j : ℕ) (d : Record) → first_slot line (length slots) ≤ j → j < k → (slice_index_or slots j d).line ≢ line
 
--- the place has the line, or has nothing yet
+-- the place has the line, or is free
 abbrev pub IsPlaceFor : List Record → ℕ → Place → Type 0
 IsPlaceFor slots line (Held k) = HoldsFirst slots line k
-IsPlaceFor slots line (Free k) = (k < length slots) × ((d : Record) → IsBlank (slice_index_or slots k d).summary)
+IsPlaceFor slots line (Free k) = (k < length slots) × ((d : Record) → (slice_index_or slots k d).line % 64 ≢ 0)
 IsPlaceFor slots line Nowhere = Unit {0}

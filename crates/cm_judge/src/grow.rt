@@ -1,5 +1,5 @@
 ghost use Rattle.std.specs.Prelude.{IfOk, IfSome};
-ghost use Rattle.cm_judge.specs.Judge.{HasOneEach, SameButBlank};
+ghost use Rattle.cm_judge.specs.Judge.{HasOneEach, SameRecords};
 ghost use Rattle.std.specs.Prelude.{IsTrue};
 
 use crate::table::{Place, Record, WINDOW, place_for};
@@ -20,11 +20,11 @@ fn doubled(slots: usize) -> usize {
 
 /// A table of twice the size with the same records, or `None` where one of them has no place in it.
 pub(crate) fn grown(alloc: Global, slots: &[Record]) -> Result<Option<Vec<Record>>, NoMemory>
-    ensures { IfOk result (λ table. IfSome table (λ new. SameButBlank slots.now new.items)) }
+    ensures { IfOk result (λ table. IfSome table (λ new. SameRecords slots.now new.items)) }
 {
-    let mut new = vec![in alloc; Record::blank(); doubled(slots.len())]?;
+    let mut new = vec![in alloc; Record::free(); doubled(slots.len())]?;
     for slot in slots {
-        if !slot.summary.is_blank() {
+        if slot.has_line() {
             match place_for(new.as_slice(), slot.line) {
                 Place::Free(k) => new[k] = *slot,
                 Place::Held(_) | Place::Nowhere => return Ok(None),
@@ -40,7 +40,7 @@ pub(crate) fn has_one_each(slots: &[Record]) -> bool
 {
     for k in 0..slots.len() {
         let slot = &slots[k];
-        if !slot.summary.is_blank() {
+        if slot.has_line() {
             match place_for(slots, slot.line) {
                 Place::Held(held) => {
                     if held != k {

@@ -1,16 +1,15 @@
-ghost use Rattle.std.specs.Prelude.{◌≡◌, ◌≢◌, ◌↔◌, [], ◌∷◌, ◌++◌, List, ℕ, ◌+◌, ◌*◌, ◌<◌, ◌≤◌, All, IfOk, OnOk, OnErr, vec_len, vec_capacity};
+ghost use Rattle.std.specs.Prelude.{◌≡◌, ◌≢◌, ◌↔◌, [], ◌∷◌, ◌++◌, List, ℕ, ◌+◌, ◌*◌, ◌%◌, ◌<◌, ◌≤◌, All, IsTrue, false, IfOk, OnOk, OnErr, vec_len, vec_capacity};
 ghost use Rattle.cm_mtrace.specs.Lines.{Covers, IsInRange};
 ghost use Rattle.cm_mtrace.specs.declared.item.Entry.{Entry};
 ghost use Rattle.cm_mtrace.specs.declared.item.Who.TheVariants.{Other};
 ghost use Rattle.cm_judge.specs.Conflicts.{AreConflictLines};
-ghost use Rattle.cm_judge.specs.Judge.{KeepWhat, SameButBlank, StandsFor};
-ghost use Rattle.cm_judge.specs.Summary.{IsBlank};
+ghost use Rattle.cm_judge.specs.Judge.{KeepWhat, SameRecords, StandsFor};
 ghost use Rattle.cm_judge.specs.declared.table.Record.{Record};
 
 use crate::grow::{grown, has_one_each};
 use crate::line::{Lines, lines_of};
 use crate::merge::{conflict_lines, merged};
-use crate::table::{Record, WINDOW, note};
+use crate::table::{Place, Record, WINDOW, note, place_for};
 use cm_model::{List, NoMemory};
 use cm_mtrace::{Entry, Who};
 use std::alloc::Global;
@@ -26,7 +25,7 @@ fn make_room(
     held: usize,
     limit: &mut usize,
 ) -> Result<(), NoMemory>
-    ensures ok { OnOk result (SameButBlank slots.old.items slots.new.items) }
+    ensures ok { OnOk result (SameRecords slots.old.items slots.new.items) }
     ensures err { OnErr result (slots.new.items ≡ slots.old.items) }
 {
     if held < *limit {
@@ -62,6 +61,27 @@ fn note_lines(
     }
 }
 
+// Adds an access of one line to what is kept of it, where the table has that line. This is what most
+// accesses are.
+#[inline(always)]
+fn note_known(slots: &mut [Record], lines: Lines, e: &Entry) -> bool
+    requires judged { e.now.who ≢ Other }
+    requires lines { (line : ℕ) → Covers e.now line ↔ ((k : ℕ) × (k < lines.count) × (line ≡ lines.first + 64 * k)) }
+    ensures known { IsTrue result → (spill : List Record) (entries : List Entry) → StandsFor (slots.old ++ spill) entries → StandsFor (slots.new ++ spill) (entries ++ e.now ∷ []) }
+    ensures unknown { result ≡ false → slots.new ≡ slots.old }
+{
+    if lines.count != 1 {
+        return false;
+    }
+    match place_for(slots, lines.first) {
+        Place::Held(k) => {
+            slots[k].summary.add(e);
+            true
+        }
+        Place::Free(_) | Place::Nowhere => false,
+    }
+}
+
 // Puts the records of one line together where many have spilled.
 fn trim(alloc: Global, spill: &mut Vec<Record>, limit: &mut usize)
     ensures { KeepWhat spill.old.items spill.new.items }
@@ -90,22 +110,22 @@ fn conflicts(alloc: Global, slots: &[Record], spill: &[Record]) -> Result<Vec<u6
     conflict_lines(alloc, records.as_slice())
 }
 
-fn blank_all(slots: &mut [Record])
-    ensures { All (λ (r : Record). IsBlank r.summary) slots.new }
+fn free_all(slots: &mut [Record])
+    ensures { All (λ (r : Record). r.line % 64 ≢ 0) slots.new }
 {
     for slot in slots.iter_mut() {
-        *slot = Record::blank();
+        *slot = Record::free();
     }
 }
 
 // Empties the table, and gives it back where it is much larger than what it held.
 fn clear(alloc: Global, slots: &mut Vec<Record>, held: usize)
-    ensures { All (λ (r : Record). IsBlank r.summary) slots.new.items }
+    ensures { All (λ (r : Record). r.line % 64 ≢ 0) slots.new.items }
 {
     if slots.len() / 16 > held.saturating_add(64) {
         *slots = Vec::new(alloc);
     } else {
-        blank_all(slots.as_mut_slice());
+        free_all(slots.as_mut_slice());
     }
 }
 
@@ -157,6 +177,20 @@ impl Judge {
             return Ok(());
         }
         let lines = lines_of(e);
+        if note_known(self.slots.as_mut_slice(), lines, e) {
+            return Ok(());
+        }
+        self.add_lines(lines, e)
+    }
+
+    #[inline(never)]
+    fn add_lines(&mut self, lines: Lines, e: &Entry) -> Result<(), NoMemory>
+        requires judged { e.now.who ≢ Other }
+        requires lines { (line : ℕ) → Covers e.now line ↔ ((k : ℕ) × (k < lines.count) × (line ≡ lines.first + 64 * k)) }
+        requires range { IsInRange e.now }
+        ensures ok { OnOk result ((entries : List Entry) → StandsFor self.old entries → StandsFor self.new (entries ++ e.now ∷ [])) }
+        ensures err { OnErr result (self.new ≡ self.old) }
+    {
         self.spill.reserve(usize::from(lines.count))?;
         make_room(self.alloc, &mut self.slots, self.held, &mut self.limit)?;
         note_lines(

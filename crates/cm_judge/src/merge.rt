@@ -48,8 +48,10 @@ pub(crate) fn conflict_lines(alloc: Global, records: &[Record]) -> Result<Vec<u6
 {
     let mut lines = Vec::new(alloc);
     for record in records {
-        if record.summary.is_conflict() {
-            lines.push(record.line)?;
+        if record.has_line() {
+            if record.summary.is_conflict() {
+                lines.push(record.line)?;
+            }
         }
     }
     lines.sort_unstable();

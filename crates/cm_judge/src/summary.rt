@@ -1,10 +1,10 @@
-ghost use Rattle.std.specs.Prelude.{◌≡◌, ◌≢◌, List, ◌↔◌, ◌⊎◌, ◌<◌, ◌≤◌, ℕ, IsTrue, false, min, max};
+ghost use Rattle.std.specs.Prelude.{◌≡◌, ◌≢◌, List, ◌↔◌, ◌⊎◌, ◌<◌, ◌≤◌, ℕ, IsTrue, min, max};
 ghost use Rattle.cm_mtrace.specs.declared.item.Who.{Who};
 ghost use Rattle.cm_mtrace.specs.declared.item.Who.TheVariants.{A, B, Other};
 ghost use Rattle.cm_mtrace.specs.declared.item.Kind.{Kind};
 ghost use Rattle.cm_judge.specs.Conflicts.{IsConflictLine};
 ghost use Rattle.cm_mtrace.specs.declared.item.Entry.{Entry};
-ghost use Rattle.cm_judge.specs.Summary.{cores_of, no_cores, place, union_of, with_core, Differ, IsBlank, IsSummaryOf};
+ghost use Rattle.cm_judge.specs.Summary.{cores_of, no_cores, place, union_of, with_core, Differ, IsSummaryOf};
 
 use cm_mtrace::{Entry, Kind, Who};
 
@@ -88,18 +88,11 @@ pub(crate) struct LineSummary {
 impl LineSummary {
     /// What is kept where there was no access.
     pub(crate) fn blank() -> LineSummary
-        ensures cores { (who : Who) (kind : Kind) → cores_of result who kind ≡ no_cores }
-        ensures blank { IsBlank result }
+        ensures { (who : Who) (kind : Kind) → cores_of result who kind ≡ no_cores }
     {
         LineSummary {
             cores: [Cores::none(); 4],
         }
-    }
-
-    pub(crate) fn is_blank(&self) -> bool
-        ensures { IsTrue result ↔ IsBlank self.now }
-    {
-        self.cores.iter().all(|cores| *cores == Cores::none())
     }
 
     fn cores(&self, who: Who, kind: Kind) -> Cores
@@ -139,8 +132,7 @@ impl LineSummary {
 
     /// A write of one call and an access of the other were made by different cores.
     pub(crate) fn is_conflict(&self) -> bool
-        ensures blank { IsBlank self.now → result ≡ false }
-        ensures conflict { (entries : List Entry) (line : ℕ) → IsSummaryOf self.now entries line → (IsTrue result ↔ IsConflictLine entries line) }
+        ensures { (entries : List Entry) (line : ℕ) → IsSummaryOf self.now entries line → (IsTrue result ↔ IsConflictLine entries line) }
     {
         self.differ(Kind::Write, Kind::Write)
             || self.differ(Kind::Write, Kind::Read)

@@ -1,11 +1,11 @@
-ghost use Rattle.std.specs.Prelude.{◌≡◌, ◌≢◌, ◌⊎◌, ◌+◌, ◌<◌, ◌≤◌, ◌++◌, ◌∷◌, [], List, ℕ, length, vec_len, vec_capacity};
+ghost use Rattle.std.specs.Prelude.{◌≡◌, ◌≢◌, ◌⊎◌, ◌+◌, ◌<◌, ◌≤◌, ◌++◌, ◌∷◌, [], List, ℕ, length, ◌%◌, ◌↔◌, IsTrue, vec_len, vec_capacity};
 ghost use Rattle.cm_mtrace.specs.Lines.{Covers};
 ghost use Rattle.cm_mtrace.specs.declared.item.Entry.{Entry};
 ghost use Rattle.cm_mtrace.specs.declared.item.Kind.{Kind};
 ghost use Rattle.cm_mtrace.specs.declared.item.Who.{Who};
 ghost use Rattle.cm_mtrace.specs.declared.item.Who.TheVariants.{Other};
 ghost use Rattle.cm_judge.specs.Judge.{KeepLine};
-ghost use Rattle.cm_judge.specs.Summary.{cores_of, IsBlank, no_cores, with_core};
+ghost use Rattle.cm_judge.specs.Summary.{cores_of, no_cores, with_core};
 ghost use Rattle.cm_judge.specs.Table.{first_slot, IsPlaceFor};
 
 use crate::summary::LineSummary;
@@ -20,13 +20,19 @@ pub struct Record {
 
 impl Record {
     /// A record of no line: lines are multiples of 64.
-    pub(crate) fn blank() -> Record
-        ensures { IsBlank result.summary }
+    pub(crate) fn free() -> Record
+        ensures { result.line % 64 ≢ 0 }
     {
         Record {
             line: u64::MAX,
             summary: LineSummary::blank(),
         }
+    }
+
+    pub(crate) fn has_line(&self) -> bool
+        ensures { IsTrue result ↔ (self.now.line % 64 ≡ 0) }
+    {
+        self.line % 64 == 0
     }
 }
 
@@ -67,7 +73,7 @@ pub(crate) fn place_for(slots: &[Record], line: u64) -> Place
         if slot.line == line {
             return Place::Held(k);
         }
-        if slot.summary.is_blank() {
+        if !slot.has_line() {
             return Place::Free(k);
         }
     }
@@ -98,7 +104,7 @@ pub(crate) fn note(
     requires covered { Covers e.now line }
     requires room { vec_len spill.old < vec_capacity spill.old }
     ensures here { (entries : List Entry) → KeepLine (slots.old ++ spill.old.items) entries line → KeepLine (slots.new ++ spill.new.items) (entries ++ e.now ∷ []) line }
-    ensures elsewhere { (entries : List Entry) (other : ℕ) → other ≢ line → KeepLine (slots.old ++ spill.old.items) entries other → KeepLine (slots.new ++ spill.new.items) entries other }
+    ensures elsewhere { (entries : List Entry) (other : ℕ) → other % 64 ≡ 0 → other ≢ line → KeepLine (slots.old ++ spill.old.items) entries other → KeepLine (slots.new ++ spill.new.items) entries other }
     ensures capacity { vec_capacity spill.old ≤ vec_capacity spill.new }
     ensures one_more { vec_len spill.new ≤ vec_len spill.old + 1 }
 {

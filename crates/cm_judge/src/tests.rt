@@ -4,6 +4,7 @@ ghost use Rattle.cm_mtrace.specs.Lines.{IsInRange};
 use super::*;
 use cm_model::{List, NoMemory};
 use cm_mtrace::{Entry, Kind, Who};
+use std::alloc::Global;
 use std::process::Abort;
 use std::test::Fail;
 
@@ -93,5 +94,107 @@ fn conflict_lines_of_small_sections(rt: HostRuntime) -> Result<(), Fail> {
         let found = judged(&rt, &mut judge, entries)?;
         assert_eq!(rt; found.as_slice(), lines);
     }
+    Ok(())
+}
+
+fn covers(e: &Entry, line: u64) -> bool {
+    e.addr - e.addr % 64 <= line && line.saturating_sub(e.addr) < u64::from(e.size)
+}
+
+fn meet(x: &Entry, y: &Entry) -> bool {
+    x.who == Who::A
+        && y.who == Who::B
+        && x.core != y.core
+        && (x.kind == Kind::Write || y.kind == Kind::Write)
+}
+
+// What a conflict line is, said plainly: two of the entries that cover it meet.
+fn is_conflict(entries: &[Entry], line: u64) -> bool {
+    entries.iter().any(|x| covers(x, line) && entries.iter().any(|y| covers(y, line) && meet(x, y)))
+}
+
+fn plain_lines(rt: &impl Abort, alloc: Global, entries: &[Entry]) -> Result<Vec<u64>, NoMemory> {
+    let mut found = Vec::new(alloc);
+    for e in entries {
+        assert!(rt; is_in_range(e));
+        let lines = lines_of(e);
+        for k in 0..lines.count {
+            let line = lines.first.saturating_add(64 * u64::from(k));
+            if is_conflict(entries, line) {
+                found.push(line)?;
+            }
+        }
+    }
+    found.sort_unstable();
+    found.dedup();
+    Ok(found)
+}
+
+fn next(seed: u64) -> u64 {
+    seed.wrapping_mul(6364136223846793005)
+        .wrapping_add(1442695040888963407)
+}
+
+// An access of some mark and kind by one of three cores.
+fn access(seed: u64, addr: u64, size: u16) -> Entry {
+    let who = match (seed >> 40) % 5 {
+        0 | 1 => Who::A,
+        2 | 3 => Who::B,
+        _ => Who::Other,
+    };
+    let kind = if (seed >> 50) % 3 == 0 {
+        Kind::Write
+    } else {
+        Kind::Read
+    };
+    entry(((seed >> 32) % 3) as u16, who, kind, addr, size)
+}
+
+#[test]
+fn judges_as_the_plain_program(rt: HostRuntime) -> Result<(), Fail> {
+    let mut judge = Judge::new(rt.alloc());
+    let mut seed = 1;
+    for lines in [40, 400, 3] {
+        let mut entries = Vec::new(rt.alloc());
+        for _ in 0..400 {
+            seed = next(seed);
+            let addr = (seed >> 20) % (64 * lines);
+            entries.push(access(seed, addr, 1 + ((seed >> 54) % 150) as u16))?;
+        }
+        let plain = plain_lines(&rt, rt.alloc(), entries.as_slice())?;
+        assert!(rt; !plain.is_empty());
+        let found = judged(&rt, &mut judge, entries.as_slice())?;
+        assert_eq!(rt; found.as_slice(), plain.as_slice(), "of {lines} lines");
+    }
+    Ok(())
+}
+
+// Many lines with the same first slot, more than it and those behind it can take.
+#[test]
+fn judges_chosen_lines(rt: HostRuntime) -> Result<(), Fail> {
+    // Times the table's multiplier it is 1, so a small number times it has a hash of 0.
+    let inverse = 0xf1de_83e1_9937_733d;
+    let mut lines = Vec::new(rt.alloc());
+    for hash in 0..8000u64 {
+        let line = hash.wrapping_mul(inverse);
+        if line < 1 << 58 {
+            lines.push(64 * line)?;
+        }
+    }
+    assert!(rt; lines.len() > 64);
+    let mut entries = Vec::new(rt.alloc());
+    let mut seed = 1;
+    for _ in 0..12 {
+        for line in &lines {
+            seed = next(seed);
+            entries.push(access(seed, *line, 64))?;
+        }
+    }
+    let plain = plain_lines(&rt, rt.alloc(), entries.as_slice())?;
+    assert!(rt; plain.len() > 32);
+    let mut judge = Judge::new(rt.alloc());
+    let found = judged(&rt, &mut judge, entries.as_slice())?;
+    assert_eq!(rt; found.as_slice(), plain.as_slice());
+    assert_eq!(rt; judged(&rt, &mut judge, &[])?.len(), 0);
     Ok(())
 }

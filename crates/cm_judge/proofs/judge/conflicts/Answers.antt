@@ -24,5 +24,5 @@ pub returns : goal.returns
 returns c =
     let gathered : c.extend_from_slice.new.self.items ≡ c.args.slots.now ++ c.args.spill.now = c.in_ok-extend_from_slice.ensures.items ∙ ap (λ (l : List Record). l ++ c.args.spill.now) c.in_ok-records.ensures.items in
     if_ok _ _ c.conflict_lines-2.result
-    (λ lines found entries stands. found entries (λ line. rw c.as_slice.ensures.value (c.in_ok-records-2.ensures.keep [] entries line (rw gathered (stands line)))))
+    (λ lines found entries stands. found entries (λ line is. rw c.as_slice.ensures.value (c.in_ok-records-2.ensures.keep [] entries line is (rw gathered (stands line is)))))
     c.conflict_lines-2.ensures

@@ -13,4 +13,4 @@ if_ok P Q (Err e) f p = tt
 
 pub returns-clause-keep : goal.returns-clause-keep
 returns-clause-keep c =
-    if_ok _ _ c.joined.result (λ joined keep others entries line h. keep others entries line (rw c.as_slice.ensures.value (KeepWhat-permutation c.args.records.items c.sort_unstable_by_key.new.self.items c.sort_unstable_by_key.ensures.permutation others entries line h))) c.joined.ensures.keep
+    if_ok _ _ c.joined.result (λ joined keep others entries line is h. keep others entries line is (rw c.as_slice.ensures.value (KeepWhat-permutation c.args.records.items c.sort_unstable_by_key.new.self.items c.sort_unstable_by_key.ensures.permutation others entries line is h))) c.joined.ensures.keep
