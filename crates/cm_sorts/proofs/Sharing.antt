@@ -3,7 +3,7 @@ use Rattle.std.proofs.Common.{◌≡◌, ◌≢◌, ◌<◌, ◌≤◌, ◌+◌,
 use Rattle.std.proofs.lemmas.Bool.{cases_eq, cases_lt, eq-eqb, ne_eqb, and_parts, or_parts, not-true, eqb-false}
 use Rattle.std.proofs.lemmas.Bool.Decides.{nat_tests}
 use Rattle.std.proofs.lemmas.List.{get_or_append_left, get_or-append_right, get_or_past}
-use Rattle.std.specs.Int.{bit_at}
+use Rattle.std.proofs.lemmas.Nat.Bits.{bit_at-zero}
 use Rattle.cm_sorts.specs.Pairs.{pairs_below, place, is_set, are_marked, is_pair}
 use Rattle.cm_sorts.specs.Words.{is_shared}
 use Rattle.cm_sorts.proofs.Triangle.{pairs_below_grow, set_within, or_false}
@@ -29,13 +29,13 @@ earlier : (keep gone other : ℕ) → keep < gone → gone ≢ other → keep �
 unfolding place
 earlier keep gone other h p q = elim (cases_lt other gone) [
   | inl e ↦
-    let greater : max gone other ≡ gone = omega arith in
-    let grow : pairs_below (max keep other) + max keep other ≤ pairs_below gone = pairs_below_grow (max keep other) gone (omega arith) in
-    rw greater (omega arith)
+      let greater : max gone other ≡ gone = omega arith in
+      let grow : pairs_below (max keep other) + max keep other ≤ pairs_below gone = pairs_below_grow (max keep other) gone (omega arith) in
+      rw greater (omega arith)
   | inr f ↦
-    let one : max gone other ≡ other = omega arith in
-    let two : max keep other ≡ other = omega arith in
-    rw (one, two) (omega arith)
+      let one : max gone other ≡ other = omega arith in
+      let two : max keep other ≡ other = omega arith in
+      rw (one, two) (omega arith)
 ]
 
 pub mark_room : (words : List ℕ) (keep gone other : ℕ) → keep < gone → are_marked words gone keep ≡ false → are_marked words gone other ≡ true → place keep other / 64 < length words
@@ -83,3 +83,10 @@ zero_index words i = elim (cases_lt i (length words)) [
 pub zero_set : (words : List ℕ) (k : ℕ) → is_set (words ++ 0 ∷ []) k ≡ is_set words k
 unfolding is_set
 zero_set words k = rw (zero_index words (k / 64)) refl
+
+pub nothing_marked : (x y : ℕ) → are_marked [] x y ≡ false
+unfolding are_marked is_set
+nothing_marked x y = elim (cases_eq x y) [
+  | inl e ↦ rw (eq-eqb x y e) refl
+  | inr f ↦ rw (ne_eqb x y f, bit_at-zero (place x y % 64)) refl
+]

@@ -48,7 +48,7 @@ pub set_bit : (words : List ℕ) (n : ℕ) → n / 64 < length words → (k : �
 unfolding is_set
 set_bit words n h k = elim (cases_eq (k / 64) (n / 64)) [
   | inl e ↦ rw (e, get_or-set_same words (n / 64) (bit_or (slice_index_or words (n / 64) 0) (1 * 2 ^ (n % 64) % 18446744073709551616)) 0 h)
-    (bit_or_at (slice_index_or words (n / 64) 0) (k % 64) (n % 64) (omega arith) ∙ ap (λ b. (bit_at (slice_index_or words (n / 64) 0) (k % 64) == 1) || b) (grind (arith, nat_tests)))
+      (bit_or_at (slice_index_or words (n / 64) 0) (k % 64) (n % 64) (omega arith) ∙ ap (λ b. (bit_at (slice_index_or words (n / 64) 0) (k % 64) == 1) || b) (grind (arith, nat_tests)))
   | inr f ↦ rw (get_or-set_other words (n / 64) (k / 64) (bit_or (slice_index_or words (n / 64) 0) (1 * 2 ^ (n % 64) % 18446744073709551616)) 0 f, ne_eqb k n (λ e. f (ap (λ m. m / 64) e)), or_false) refl
 ]
 

@@ -32,6 +32,19 @@ pub fn rename(variables: &mut [Variable], gone: u32, keep: u32)
     }
 }
 
+/// Puts the variables of the label `gone` into the class of the label `keep`.
+pub fn join(variables: &mut [Variable], words: &mut [u64], keep: u64, gone: u64)
+    requires lesser { keep < gone }
+    requires few { length variables.old < 2 ^ 32 }
+    requires within { gone < length variables.old }
+    requires may { are_marked words.old gone keep ≡ false }
+    ensures labels { variables.new ≡ map (relabelled gone keep) variables.old }
+    ensures marks { (i j : ℕ) → are_marked words.new i j ≡ (are_marked words.old i j || is_shared words.old keep gone (length variables.old) i j) }
+{
+    share_marks(words, variables.len() as u64, keep, gone);
+    rename(variables, gone as u32, keep as u32);
+}
+
 /// Marks with `keep` what is marked with `gone`.
 pub fn share_marks(words: &mut [u64], count: u64, keep: u64, gone: u64)
     requires lesser { keep < gone }

@@ -27,7 +27,7 @@ loop-variable-preserved c =
     let d : Variable = record { sort = 0; label = 0 } in
     elim c.if-variable-gone.branch [
       | then-variable-gone w ↦ more f c.args.variables.now vs _ i d c.loop-variable-test.true c.loop-variable.auto.variables c.loop-variable.invariant
-        (w.variables-is ∙ ap (slice_set vs i) (changed c.args.gone c.args.keep (slice_index_or vs i d) w.if-variable-gone.true))
+          (w.variables-is ∙ ap (slice_set vs i) (changed c.args.gone c.args.keep (slice_index_or vs i d) w.if-variable-gone.true))
       | else-variable-gone w ↦ more f c.args.variables.now vs _ i d c.loop-variable-test.true c.loop-variable.auto.variables c.loop-variable.invariant
-        (w.variables-is ∙ ap (slice_set vs i) (kept c.args.gone c.args.keep (slice_index_or vs i d) w.if-variable-gone.false))
+          (w.variables-is ∙ ap (slice_set vs i) (kept c.args.gone c.args.keep (slice_index_or vs i d) w.if-variable-gone.false))
     ]
