@@ -1,0 +1,4 @@
+//! Integers: the bounds of their differences, and which orders they allow.
+#![tactic(auto)]
+
+mod shells;

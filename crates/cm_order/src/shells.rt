@@ -1,0 +1,63 @@
+ghost use Rattle.std.specs.Prelude.{◌≡◌, ◌<◌, ◌≤◌, ◌+◌, ◌*◌, ◌^◌, ℕ, ℤ, ◌+ℤ◌, ◌≤ℤ◌, pos, length, FitsSigned, if◌then◌else◌, ◌==◌, max};
+ghost use Rattle.std.specs.Int.{w32, int_min};
+ghost use Rattle.cm_order.specs.Shells.{lowered, number_at, relaxed, with_edge};
+ghost use Rattle.cm_order.specs.Shells as shells;
+
+/// The place of the difference of `x` and `y`.
+#[tactic(auto, unfolding(crate::specs::Shells::place))]
+pub fn place(x: usize, y: usize) -> usize
+    requires x { x < 2 ^ 31 }
+    requires y { y < 2 ^ 31 }
+    ensures { result ≡ shells.place x y }
+{
+    if y <= x { x * x + y } else { y * y + y + 1 + x }
+}
+
+/// The most by which `x` can exceed `y`.
+pub fn entry(entries: &[i32], x: usize, y: usize) -> i32
+    requires x { x < 2 ^ 31 }
+    requires y { y < 2 ^ 31 }
+    requires within { shells.place x y < length entries.now }
+    ensures { result ≡ shells.entry entries.now x y }
+{
+    entries[place(x, y)]
+}
+
+/// Lowers each number from `start` on to `by` more than the other in its place.
+fn relax_run(cells: &mut [i32], start: usize, others: &[i32], by: i32)
+    requires room { start + length others.now ≤ length cells.old }
+    requires fits { (k : ℕ) → k < length others.now → FitsSigned w32 (by +ℤ number_at others.now k) }
+    ensures { (p : ℕ) → number_at cells.new p ≡ relaxed cells.old start others.now by (length others.now) p }
+{
+    'run: for k in 0..others.len() {
+        let least = by + others[k];
+        cells[start + k] = cells[start + k].min(least);
+    }
+}
+
+/// Lowers the differences of shell `m` to the sums of the column and the row.
+fn relax_shell(cells: &mut [i32], column: &[i32], row: &[i32], m: usize)
+    requires shell { m < length column.now }
+    requires few { length column.now < 2 ^ 31 }
+    requires column { length cells.old ≡ length column.now * length column.now }
+    requires row { length column.now ≤ length row.now }
+    requires fits { (i j : ℕ) → i < length column.now → j < length column.now → FitsSigned w32 (number_at column.now i +ℤ number_at row.now j) }
+    ensures { (i j : ℕ) → i < length column.now → j < length column.now → shells.entry cells.new i j ≡ (if max i j == m then lowered (shells.entry cells.old) column.now row.now i j else shells.entry cells.old i j) }
+{
+    let start = m * m;
+    relax_run(cells, start, &row[..m + 1], column[m]);
+    relax_run(cells, start + m + 1, &column[..m], row[m]);
+}
+
+/// Lowers each difference to the sum of the column and the row.
+fn relax(cells: &mut [i32], column: &[i32], row: &[i32])
+    requires few { length column.now < 2 ^ 31 }
+    requires column { length cells.old ≡ length column.now * length column.now }
+    requires row { length column.now ≤ length row.now }
+    requires fits { (i j : ℕ) → i < length column.now → j < length column.now → FitsSigned w32 (number_at column.now i +ℤ number_at row.now j) }
+    ensures { (i j : ℕ) → i < length column.now → j < length column.now → shells.entry cells.new i j ≡ lowered (shells.entry cells.old) column.now row.now i j }
+{
+    'shells: for m in 0..column.len() {
+        relax_shell(cells, column, row, m);
+    }
+}
