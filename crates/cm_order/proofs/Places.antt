@@ -1,12 +1,12 @@
 -- Where differences stand.
-use Rattle.std.proofs.Common.{◌≡◌, ◌<◌, ◌≤◌, ◌+◌, ◌-◌, ◌*◌, ◌==◌, ◌⊎◌, inl, inr, ℕ, ℤ, suc, pos, ◌+ℤ◌, Bool, true, false, cond, max, nat_le, nat_lt, List, length, take, refl, sym, ap, ◌∙◌, arith}
+use Rattle.std.proofs.Common.{◌≡◌, ◌<◌, ◌≤◌, ◌+◌, ◌-◌, ◌*◌, ◌==◌, ◌⊎◌, inl, inr, ℕ, ℤ, suc, pos, ◌+ℤ◌, Bool, true, false, cond, max, nat_le, nat_lt, List, ◌++◌, length, take, refl, sym, ap, ◌∙◌, arith}
 use Rattle.std.specs.Int.{int_min}
 use Rattle.std.proofs.lemmas.Bool.{cases_eq, cases_lt, cases_order, le-leb, lt-leb, eq-eqb, ne_eqb, lt-ltb, le-ltb}
 use Rattle.std.proofs.lemmas.Int.{ints}
-use Rattle.std.proofs.lemmas.List.{get_or-take}
+use Rattle.std.proofs.lemmas.List.{get_or-take, get_or_append_left}
 use Rattle.std.proofs.lemmas.Nat.{mul-le}
 use Rattle.std.proofs.Math.Nat.{mul-suc, suc-mul}
-use Rattle.cm_order.specs.Shells.{place, entry, number_at, relaxed, lowered}
+use Rattle.cm_order.specs.Shells.{place, entry, number_at, relaxed, lowered, with_edge}
 use Rattle.cm_order.proofs.Runs.{relaxed_above, relaxed_below, relaxed_in}
 
 pub square_grow : (a b : ℕ) → a < b → a * a + a + a + 1 ≤ b * b
@@ -78,3 +78,23 @@ shell_at old mid new column row m i j by over h by_long by_is over_long over_is 
         ∙ first (place i j) ∙ relaxed_above old (m * m) by (number_at column m) (length by) (place i j) (omega arith))
     ])
 ]
+
+pub place_in : (n x y : ℕ) (entries : List ℤ) → x < n → y < n → length entries ≡ (n + 1) * (n + 1) → place x y < length entries
+place_in n x y entries h k long =
+    let within : place x y < n * n = place_within n x y h k in
+    let more : n * n ≤ (n + 1) * (n + 1) = mul-le n n (n + 1) (n + 1) (omega arith) (omega arith) in
+    omega arith
+
+pub entry_front : (n i j : ℕ) (entries : List ℤ) → i < n → j < n → entry (take (n * n) entries) i j ≡ entry entries i j
+entry_front n i j entries p q = get_or-take (n * n) entries (place i j) (pos 0) (place_within n i j p q)
+
+-- what one pass leaves
+pub edge_after : (n : ℕ) (entries cells column row : List ℤ) (x y : ℕ) (most : ℤ) → x < n → y < n → length cells ≡ n * n
+    → ((k : ℕ) → k < n → number_at column k ≡ entry (take (n * n) entries) k x +ℤ most)
+    → ((k : ℕ) → k < n → number_at row k ≡ entry (take (n * n) entries) y k)
+    → ((i j : ℕ) → i < n → j < n → entry cells i j ≡ lowered (entry (take (n * n) entries)) column row i j)
+    → (i j : ℕ) → i < n → j < n → entry (cells ++ (column ++ row)) i j ≡ with_edge (entry entries) x y most i j
+edge_after n entries cells column row x y most xn yn long columns rows lowers i j p q =
+    let within : place i j < length cells = let k = place_within n i j p q in omega arith in
+    get_or_append_left cells (column ++ row) (pos 0) (place i j) within ∙ lowers i j p q
+    ∙ rw (columns i p, rows j q, entry_front n i j entries p q, entry_front n i x entries p xn, entry_front n y j entries yn q) refl

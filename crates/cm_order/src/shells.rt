@@ -1,6 +1,6 @@
-ghost use Rattle.std.specs.Prelude.{◌≡◌, ◌<◌, ◌≤◌, ◌+◌, ◌*◌, ◌^◌, ℕ, ℤ, ◌+ℤ◌, ◌≤ℤ◌, pos, length, FitsSigned, if◌then◌else◌, ◌==◌, max};
+ghost use Rattle.std.specs.Prelude.{◌≡◌, ◌<◌, ◌≤◌, ◌+◌, ◌*◌, ◌^◌, ℕ, ℤ, ◌+ℤ◌, ◌≤ℤ◌, pos, negsuc, length, FitsSigned, if◌then◌else◌, ◌==◌, max};
 ghost use Rattle.std.specs.Int.{w32, int_min};
-ghost use Rattle.cm_order.specs.Shells.{lowered, number_at, relaxed, with_edge};
+ghost use Rattle.cm_order.specs.Shells.{IsProper, lowered, number_at, relaxed, with_edge};
 ghost use Rattle.cm_order.specs.Shells as shells;
 
 /// The place of the difference of `x` and `y`.
@@ -59,5 +59,51 @@ fn relax(cells: &mut [i32], column: &[i32], row: &[i32])
 {
     'shells: for m in 0..column.len() {
         relax_shell(cells, column, row, m);
+    }
+}
+
+/// Puts the differences to `x`, each with `most` added, into the column, and those of `y` into the row.
+fn gather(cells: &[i32], column: &mut [i32], row: &mut [i32], x: usize, y: usize, most: i32)
+    requires few { length column.old < 2 ^ 31 }
+    requires cells { length cells.now ≡ length column.old * length column.old }
+    requires row { length column.old ≤ length row.old }
+    requires x { x < length column.old }
+    requires y { y < length column.old }
+    requires fits { (k : ℕ) → k < length column.old → FitsSigned w32 (shells.entry cells.now k x +ℤ most) }
+    ensures column { (k : ℕ) → k < length column.old → number_at column.new k ≡ shells.entry cells.now k x +ℤ most }
+    ensures row { (k : ℕ) → k < length column.old → number_at row.new k ≡ shells.entry cells.now y k }
+{
+    'lines: for k in 0..column.len() {
+        column[k] = entry(cells, k, x) + most;
+        row[k] = entry(cells, y, k);
+    }
+}
+
+/// Lowers each difference to what it is once `x` exceeds `y` by at most `most`, by one pass.
+fn spread(entries: &mut [i32], count: usize, x: usize, y: usize, most: i32)
+    requires proper { IsProper count entries.old }
+    requires x { x < count }
+    requires y { y < count }
+    requires low { negsuc 1000000000 ≤ℤ most }
+    requires high { most ≤ℤ pos 1000000001 }
+    ensures { (i j : ℕ) → i < count → j < count → shells.entry entries.new i j ≡ with_edge (shells.entry entries.old) x y most i j }
+{
+    let (cells, scratch) = entries.split_at_mut(count * count);
+    let (column, row) = scratch.split_at_mut(count);
+    gather(cells, column, row, x, y, most);
+    relax(cells, column, row);
+}
+
+/// Lowers each difference to what it is once `x` exceeds `y` by at most `most`.
+pub fn add_edge(entries: &mut [i32], count: usize, x: usize, y: usize, most: i32)
+    requires proper { IsProper count entries.old }
+    requires x { x < count }
+    requires y { y < count }
+    requires low { negsuc 1000000000 ≤ℤ most }
+    requires high { most ≤ℤ pos 1000000001 }
+    ensures { (i j : ℕ) → i < count → j < count → shells.entry entries.new i j ≡ with_edge (shells.entry entries.old) x y most i j }
+{
+    if most < entry(entries, x, y) {
+        spread(entries, count, x, y, most);
     }
 }
