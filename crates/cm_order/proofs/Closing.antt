@@ -142,3 +142,62 @@ not_below m r h = grind (arith, ints)
 -- as the code tests it
 pub not_below_bits : (m r : ℤ) → FitsSigned w32 m → FitsSigned w32 r → lt_z (to_z w32 (of_z w32 m)) (to_z w32 (of_z w32 r)) ≡ false → r ≤ℤ m
 not_below_bits m r f g h = not_below m r (rw (to_z-of_z w32 m f, to_z-of_z w32 r g) at h)
+
+-- which orders some valuation has
+pub may_lt : (n : ℕ) (d : ℕ → ℕ → ℤ) → IsClosed n d → 0 < n → (x y : ℕ) (c : ℤ) → x < n → y < n → (c <ℤ d y x) ↔ ((v : ℕ → ℤ) × Meets n d v × ((v x +ℤ c) <ℤ v y))
+may_lt n d h some x y c p q = (
+  (λ e. let w = edge_witness n d x y (neg_ℤ c -ℤ pos 1) h some p q (omega (arith, ints)) in let k = w.2 in (w.0, w.1, omega (arith, ints))),
+  (λ w. let a = w.1.within y x q p in let k = w.2 in omega (arith, ints)),
+)
+
+pub may_gt : (n : ℕ) (d : ℕ → ℕ → ℤ) → IsClosed n d → 0 < n → (x y : ℕ) (c : ℤ) → x < n → y < n → (neg_ℤ (d x y) <ℤ c) ↔ ((v : ℕ → ℤ) × Meets n d v × (v y <ℤ (v x +ℤ c)))
+may_gt n d h some x y c p q = (
+  (λ e. let w = edge_witness n d y x (c -ℤ pos 1) h some q p (omega (arith, ints)) in let k = w.2 in (w.0, w.1, omega (arith, ints))),
+  (λ w. let a = w.1.within x y p q in let k = w.2 in omega (arith, ints)),
+)
+
+-- the second edge of an equality is consistent with the first
+pub second_edge : (n : ℕ) (d : ℕ → ℕ → ℤ) → IsClosed n d → (x y : ℕ) (c : ℤ) → x < n → y < n → neg_ℤ (d x y) ≤ℤ c → pos 0 ≤ℤ (c +ℤ with_edge d x y (neg_ℤ c) x y)
+second_edge n d h x y c p q e =
+    let a = h.zero x p in
+    let b = h.zero y q in
+    let least = min_both (neg_ℤ c) (d x y) ((d x x +ℤ neg_ℤ c) +ℤ d y y) (omega (arith, ints)) (omega (arith, ints)) in
+    omega (arith, ints)
+
+equal_from : (a b c : ℤ) → (a -ℤ b) ≤ℤ neg_ℤ c → (b -ℤ a) ≤ℤ c → (a +ℤ c) ≡ b
+equal_from a b c p q = grind (arith, ints)
+
+equal_first : (a b c : ℤ) → (a +ℤ c) ≡ b → (a -ℤ b) ≤ℤ neg_ℤ c
+equal_first a b c e = grind (arith, ints)
+
+equal_second : (a b c : ℤ) → (a +ℤ c) ≡ b → (b -ℤ a) ≤ℤ c
+equal_second a b c e = grind (arith, ints)
+
+-- both edges
+pub equal_meets : (n : ℕ) (d : ℕ → ℕ → ℤ) → IsClosed n d → (x y : ℕ) (c : ℤ) → x < n → y < n → neg_ℤ (d x y) ≤ℤ c → c ≤ℤ d y x → (v : ℕ → ℤ)
+    → Meets n (with_edge (with_edge d x y (neg_ℤ c)) y x c) v ↔ (Meets n d v × ((v x +ℤ c) ≡ v y))
+equal_meets n d h x y c p q low high v =
+    let first : pos 0 ≤ℤ (neg_ℤ c +ℤ d y x) = omega (arith, ints) in
+    let closed : IsClosed n (with_edge d x y (neg_ℤ c)) = edge_closed n d x y (neg_ℤ c) h p q first in
+    ((λ s.
+    let a = (edge_meets n (with_edge d x y (neg_ℤ c)) y x c closed q p v).0 s in
+    let b = (edge_meets n d x y (neg_ℤ c) h p q v).0 a.0 in
+    (b.0, equal_from (v x) (v y) c b.1 a.1)),
+    (λ s. (edge_meets n (with_edge d x y (neg_ℤ c)) y x c closed q p v).1
+    ((edge_meets n d x y (neg_ℤ c) h p q v).1 (s.0, equal_first (v x) (v y) c s.1), equal_second (v x) (v y) c s.1)))
+
+pub equal_closed : (n : ℕ) (d : ℕ → ℕ → ℤ) → IsClosed n d → (x y : ℕ) (c : ℤ) → x < n → y < n → neg_ℤ (d x y) ≤ℤ c → c ≤ℤ d y x → IsClosed n (with_edge (with_edge d x y (neg_ℤ c)) y x c)
+equal_closed n d h x y c p q low high =
+    edge_closed n (with_edge d x y (neg_ℤ c)) y x c (edge_closed n d x y (neg_ℤ c) h p q (omega (arith, ints))) q p (second_edge n d h x y c p q low)
+
+pub may_eq : (n : ℕ) (d : ℕ → ℕ → ℤ) → IsClosed n d → 0 < n → (x y : ℕ) (c : ℤ) → x < n → y < n → ((neg_ℤ (d x y) ≤ℤ c) × (c ≤ℤ d y x)) ↔ ((v : ℕ → ℤ) × Meets n d v × ((v x +ℤ c) ≡ v y))
+may_eq n d h some x y c p q = (
+  (λ e.
+  let e2 = with_edge (with_edge d x y (neg_ℤ c)) y x c in
+  let u = λ (i : ℕ). neg_ℤ (e2 0 i) in
+  let both = (equal_meets n d h x y c p q e.0 e.1 u).0 (least_meets n e2 (equal_closed n d h x y c p q e.0 e.1) some) in
+  (u, both.0, both.1)),
+  (λ w. let a = w.1.within x y p q in let b = w.1.within y x q p in
+  let f = equal_first (w.0 x) (w.0 y) c w.2 in let g = equal_second (w.0 x) (w.0 y) c w.2 in
+  (omega (arith, ints), omega (arith, ints))),
+)

@@ -1,3 +1,4 @@
 pub mod Closing
+pub mod Filling
 pub mod Places
 pub mod Runs

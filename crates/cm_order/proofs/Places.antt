@@ -79,7 +79,7 @@ shell_at old mid new column row m i j by over h by_long by_is over_long over_is 
     ])
 ]
 
-pub place_in : (n x y : ℕ) (entries : List ℤ) → x < n → y < n → length entries ≡ (n + 1) * (n + 1) → place x y < length entries
+pub place_in : (n x y : ℕ) (entries : List ℤ) → x < n → y < n → (n + 1) * (n + 1) ≤ length entries → place x y < length entries
 place_in n x y entries h k long =
     let within : place x y < n * n = place_within n x y h k in
     let more : n * n ≤ (n + 1) * (n + 1) = mul-le n n (n + 1) (n + 1) (omega arith) (omega arith) in

@@ -29,7 +29,7 @@ pub record IsProper (count : ℕ) (entries : List ℤ) : Type 0 where
   pub some : 0 < count
   pub few : count < 2 ^ 31
   -- one more shell holds what an addition works with
-  pub long : length entries ≡ (count + 1) * (count + 1)
+  pub long : (count + 1) * (count + 1) ≤ length entries
   pub closed : IsClosed count (entry entries)
 
 -- the bounds once x exceeds y by at most w
@@ -44,3 +44,7 @@ relaxed cells start others by n p =
 -- the entries of one shell, lowered to the sum of a column and a row
 abbrev pub lowered : (ℕ → ℕ → ℤ) → List ℤ → List ℤ → ℕ → ℕ → ℤ
 lowered d column row i j = int_min (d i j) (number_at column i +ℤ number_at row j)
+
+-- the bounds with one more variable, between lo and hi
+abbrev pub extended : ℕ → (ℕ → ℕ → ℤ) → ℤ → ℤ → ℕ → ℕ → ℤ
+extended n d lo hi i j = if nat_lt i n then (if nat_lt j n then d i j else d i 0 -ℤ lo) else (if nat_lt j n then hi +ℤ d 0 j else pos 0)

@@ -1,7 +1,9 @@
-ghost use Rattle.std.specs.Prelude.{◌≡◌, ◌<◌, ◌≤◌, ◌+◌, ◌*◌, ◌^◌, ℕ, ℤ, ◌+ℤ◌, ◌≤ℤ◌, pos, negsuc, length, FitsSigned, if◌then◌else◌, ◌==◌, max};
+ghost use Rattle.std.specs.Prelude.{◌≡◌, ◌<◌, ◌≤◌, ◌+◌, ◌*◌, ◌^◌, ℕ, ℤ, ◌+ℤ◌, ◌≤ℤ◌, pos, negsuc, length, FitsSigned, if◌then◌else◌, ◌==◌, max, OnOk};
 ghost use Rattle.std.specs.Int.{w32, int_min};
-ghost use Rattle.cm_order.specs.Shells.{IsProper, lowered, number_at, relaxed, with_edge};
+ghost use Rattle.cm_order.specs.Shells.{IsProper, extended, lowered, number_at, relaxed, with_edge};
 ghost use Rattle.cm_order.specs.Shells as shells;
+
+use cm_model::NoMemory;
 
 /// The place of the difference of `x` and `y`.
 #[tactic(auto, unfolding(crate::specs::Shells::place))]
@@ -106,4 +108,34 @@ pub fn add_edge(entries: &mut [i32], count: usize, x: usize, y: usize, most: i32
     if most < entry(entries, x, y) {
         spread(entries, count, x, y, most);
     }
+}
+
+/// Writes the shell of one more variable, which is at least `lo` and at most `hi`.
+pub fn fill_shell(entries: &mut [i32], count: usize, lo: i32, hi: i32)
+    requires proper { IsProper count entries.old }
+    requires low { negsuc 999999 ≤ℤ lo }
+    requires order { lo ≤ℤ hi }
+    requires high { hi ≤ℤ pos 1000000 }
+    ensures { (i j : ℕ) → i ≤ count → j ≤ count → shells.entry entries.new i j ≡ extended count (shells.entry entries.old) lo hi i j }
+{
+    let start = count * count;
+    'cells: for k in 0..count {
+        let above = hi + entry(entries, 0, k);
+        let below = entry(entries, k, 0) - lo;
+        entries[start + k] = above;
+        entries[start + count + 1 + k] = below;
+    }
+    entries[start + count] = 0;
+}
+
+/// Appends zeros.
+pub fn append_zeros(entries: &mut Vec<i32>, more: usize) -> Result<(), NoMemory>
+    ensures long { OnOk result (length entries.new.items ≡ length entries.old.items + more) }
+    ensures longer { length entries.old.items ≤ length entries.new.items }
+    ensures kept { (p : ℕ) → number_at entries.new.items p ≡ number_at entries.old.items p }
+{
+    'zeros: for _ in 0..more {
+        entries.push(0)?;
+    }
+    Ok(())
 }
