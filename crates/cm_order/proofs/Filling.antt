@@ -15,7 +15,7 @@ pub record Filled (n k : ℕ) (old now : List ℤ) (lo hi : ℤ) : Type 0 where
   pub row : (j : ℕ) → j < k → entry now n j ≡ hi +ℤ entry old 0 j
   pub column : (i : ℕ) → i < k → entry now i n ≡ entry old i 0 -ℤ lo
 
-shell_long : (n : ℕ) → (n + 1) * (n + 1) ≡ n * n + n + n + 1
+pub shell_long : (n : ℕ) → (n + 1) * (n + 1) ≡ n * n + n + n + 1
 shell_long n = omega (arith, mul-suc (n + 1) n, suc-mul n n)
 
 -- entries other than the two that are written

@@ -1,5 +1,6 @@
-ghost use Rattle.std.specs.Prelude.{◌≡◌, ◌<◌, ◌+◌, ◌↔◌, ℕ, ℤ, pos, negsuc, ◌+ℤ◌, ◌≤ℤ◌, ◌<ℤ◌, IsTrue, IfOk, OnOk, length};
-ghost use Rattle.cm_order.specs.Differences.{Satisfies, IsSatisfiable, Allows, Keeps, IsLeast};
+ghost use Rattle.std.specs.Prelude.{◌≡◌, ◌<◌, ◌+◌, ◌↔◌, ℕ, ℤ, pos, negsuc, ◌+ℤ◌, ◌-ℤ◌, ◌≤ℤ◌, ◌<ℤ◌, IsTrue, IfOk, OnOk, length};
+ghost use Rattle.cm_order.specs.Differences.{difference, Satisfies, IsSatisfiable, Allows, Keeps, IsLeast};
+ghost use Rattle.cm_order.specs.Shells.{IsClosed};
 
 use crate::shells;
 use cm_model::{IntVar, NoMemory};
@@ -76,12 +77,11 @@ impl Bounds {
         ensures eq { IsTrue result.eq ↔ Allows self.now (λ v. (v x.0 +ℤ c) ≡ v y.0) }
         ensures gt { IsTrue result.gt ↔ Allows self.now (λ v. v y.0 <ℤ (v x.0 +ℤ c)) }
     {
-        let entries = self.entries.as_slice();
-        let most = i64::from(shells::entry(entries, y.0 as usize, x.0 as usize));
-        let least = -i64::from(shells::entry(entries, x.0 as usize, y.0 as usize));
+        let most = self.most(y, x);
+        let least = -self.most(x, y);
         OrderMask {
             lt: c < most,
-            eq: least <= c && c <= most,
+            eq: is_between(least, c, most),
             gt: least < c,
         }
     }
@@ -91,7 +91,7 @@ impl Bounds {
         requires { x.0 < length self.now }
         ensures { (u : ℕ → ℤ) × IsLeast self.now u × (result ≡ u x.0) }
     {
-        -i64::from(shells::entry(self.entries.as_slice(), 0, x.0 as usize))
+        -self.most(IntVar(0), x)
     }
 
     /// An equal value.
@@ -115,7 +115,7 @@ impl Bounds {
         ensures count { length self.new ≡ length self.old }
         ensures satisfiable { IsSatisfiable self.new }
     {
-        shells::add_edge(&mut self.entries, self.count, x.0 as usize, y.0 as usize, (-c - 1) as i32);
+        self.add_edge(x, -c - 1, y);
     }
 
     /// Keeps the valuations with `x + c = y`.
@@ -129,8 +129,8 @@ impl Bounds {
         ensures count { length self.new ≡ length self.old }
         ensures satisfiable { IsSatisfiable self.new }
     {
-        shells::add_edge(&mut self.entries, self.count, x.0 as usize, y.0 as usize, -c as i32);
-        shells::add_edge(&mut self.entries, self.count, y.0 as usize, x.0 as usize, c as i32);
+        self.add_edge(x, -c, y);
+        self.add_edge(y, c, x);
     }
 
     /// Keeps the valuations with `x + c > y`.
@@ -144,6 +144,45 @@ impl Bounds {
         ensures count { length self.new ≡ length self.old }
         ensures satisfiable { IsSatisfiable self.new }
     {
-        shells::add_edge(&mut self.entries, self.count, y.0 as usize, x.0 as usize, (c - 1) as i32);
+        self.add_edge(y, c - 1, x);
     }
+
+    /// The most by which `x` can exceed `y`.
+    fn most(&self, x: IntVar, y: IntVar) -> i64
+        requires x { x.0 < length self.now }
+        requires y { y.0 < length self.now }
+        ensures value { result ≡ difference self.now x.0 y.0 }
+        ensures low { negsuc 1999999 ≤ℤ result }
+        ensures high { result ≤ℤ pos 2000000 }
+        ensures some { 0 < length self.now }
+        ensures closed { IsClosed (length self.now) (difference self.now) }
+    {
+        i64::from(shells::entry(
+            self.entries.as_slice(),
+            x.0 as usize,
+            y.0 as usize,
+        ))
+    }
+
+    /// Keeps the valuations in which `x` exceeds `y` by at most `most`.
+    fn add_edge(&mut self, x: IntVar, most: i64, y: IntVar)
+        requires x { x.0 < length self.old }
+        requires y { y.0 < length self.old }
+        requires low { negsuc 1000000000 ≤ℤ most }
+        requires high { most ≤ℤ pos 1000000001 }
+        requires may { Allows self.old (λ v. (v x.0 -ℤ v y.0) ≤ℤ most) }
+        ensures kept { Keeps self.old self.new (λ v. (v x.0 -ℤ v y.0) ≤ℤ most) }
+        ensures count { length self.new ≡ length self.old }
+        ensures satisfiable { IsSatisfiable self.new }
+    {
+        let from = x.0 as usize;
+        let to = y.0 as usize;
+        shells::add_edge(&mut self.entries, self.count, from, to, most as i32);
+    }
+}
+
+fn is_between(least: i64, n: i64, most: i64) -> bool
+    ensures { IsTrue result ↔ ((least ≤ℤ n) × (n ≤ℤ most)) }
+{
+    least <= n && n <= most
 }
