@@ -64,17 +64,17 @@ pub edge_closed : (n : ℕ) (d : ℕ → ℕ → ℤ) (p q : ℕ) (w : ℤ) → 
 edge_closed n d p q w h pn qn ok = record {
   zero = λ i u. let a = h.triangle q p i qn pn u in let b = h.zero i u in grind (arith, ints);
   triangle = λ i j k u v t.
-  let a = h.triangle i j k u v t in
-  let b = h.triangle i p k u pn t in
-  let e = h.triangle q j k qn v t in
-  let f = h.triangle q p k qn pn t in
-  let old = d i j in
-  let new = (d i p +ℤ w) +ℤ d q j in
-  four_sums (int_min old new) (d i k) ((d i p +ℤ w) +ℤ d q k) (d k j) ((d k p +ℤ w) +ℤ d q j)
-  (min_left old new _ a)
-  (min_right old new (d i k +ℤ ((d k p +ℤ w) +ℤ d q j)) (omega (arith, ints)))
-  (min_right old new (((d i p +ℤ w) +ℤ d q k) +ℤ d k j) (omega (arith, ints)))
-  (min_right old new (((d i p +ℤ w) +ℤ d q k) +ℤ ((d k p +ℤ w) +ℤ d q j)) (omega (arith, ints)));
+      let a = h.triangle i j k u v t in
+      let b = h.triangle i p k u pn t in
+      let e = h.triangle q j k qn v t in
+      let f = h.triangle q p k qn pn t in
+      let old = d i j in
+      let new = (d i p +ℤ w) +ℤ d q j in
+      four_sums (int_min old new) (d i k) ((d i p +ℤ w) +ℤ d q k) (d k j) ((d k p +ℤ w) +ℤ d q j)
+      (min_left old new _ a)
+      (min_right old new (d i k +ℤ ((d k p +ℤ w) +ℤ d q j)) (omega (arith, ints)))
+      (min_right old new (((d i p +ℤ w) +ℤ d q k) +ℤ d k j) (omega (arith, ints)))
+      (min_right old new (((d i p +ℤ w) +ℤ d q k) +ℤ ((d k p +ℤ w) +ℤ d q j)) (omega (arith, ints)));
   above = λ i u. min_left (d i 0) _ (pos 1000000) (h.above i u);
   below = λ i u. min_left (d 0 i) _ (pos 1000000) (h.below i u);
 }
@@ -105,18 +105,18 @@ meets_same n d e v same h = record { zero = h.zero; within = λ i j p q. rw (sam
 pub edge_meets : (n : ℕ) (d : ℕ → ℕ → ℤ) (p q : ℕ) (w : ℤ) → IsClosed n d → p < n → q < n → (v : ℕ → ℤ) → Meets n (with_edge d p q w) v ↔ (Meets n d v × ((v p -ℤ v q) ≤ℤ w))
 edge_meets n d p q w h pn qn v = (
   (λ s.
-  let sum = below_min_right (v p -ℤ v q) (d p q) ((d p p +ℤ w) +ℤ d q q) (s.within p q pn qn) in
-  let b = h.zero p pn in
-  let e = h.zero q qn in
-  (record { zero = s.zero; within = λ i j u t. below_min_left (v i -ℤ v j) (d i j) ((d i p +ℤ w) +ℤ d q j) (s.within i j u t) }, omega (arith, ints))),
+      let sum = below_min_right (v p -ℤ v q) (d p q) ((d p p +ℤ w) +ℤ d q q) (s.within p q pn qn) in
+      let b = h.zero p pn in
+      let e = h.zero q qn in
+      (record { zero = s.zero; within = λ i j u t. below_min_left (v i -ℤ v j) (d i j) ((d i p +ℤ w) +ℤ d q j) (s.within i j u t) }, omega (arith, ints))),
   (λ s. record {
     zero = s.0.zero;
     within = λ i j u t.
-    let a = s.0.within i j u t in
-    let b = s.0.within i p u pn in
-    let e = s.0.within q j qn t in
-    let f = s.1 in
-    min_both (v i -ℤ v j) (d i j) ((d i p +ℤ w) +ℤ d q j) a (omega (arith, ints));
+        let a = s.0.within i j u t in
+        let b = s.0.within i p u pn in
+        let e = s.0.within q j qn t in
+        let f = s.1 in
+        min_both (v i -ℤ v j) (d i j) ((d i p +ℤ w) +ℤ d q j) a (omega (arith, ints));
   }),
 )
 
@@ -178,13 +178,14 @@ pub equal_meets : (n : ℕ) (d : ℕ → ℕ → ℤ) → IsClosed n d → (x y 
     → Meets n (with_edge (with_edge d x y (neg_ℤ c)) y x c) v ↔ (Meets n d v × ((v x +ℤ c) ≡ v y))
 equal_meets n d h x y c p q low high v =
     let first : pos 0 ≤ℤ (neg_ℤ c +ℤ d y x) = omega (arith, ints) in
-    let closed : IsClosed n (with_edge d x y (neg_ℤ c)) = edge_closed n d x y (neg_ℤ c) h p q first in
-    ((λ s.
-    let a = (edge_meets n (with_edge d x y (neg_ℤ c)) y x c closed q p v).0 s in
-    let b = (edge_meets n d x y (neg_ℤ c) h p q v).0 a.0 in
-    (b.0, equal_from (v x) (v y) c b.1 a.1)),
-    (λ s. (edge_meets n (with_edge d x y (neg_ℤ c)) y x c closed q p v).1
-    ((edge_meets n d x y (neg_ℤ c) h p q v).1 (s.0, equal_first (v x) (v y) c s.1), equal_second (v x) (v y) c s.1)))
+    let closed : IsClosed n (with_edge d x y (neg_ℤ c)) = edge_closed n d x y (neg_ℤ c) h p q first in (
+      (λ s.
+          let a = (edge_meets n (with_edge d x y (neg_ℤ c)) y x c closed q p v).0 s in
+          let b = (edge_meets n d x y (neg_ℤ c) h p q v).0 a.0 in
+          (b.0, equal_from (v x) (v y) c b.1 a.1)),
+      (λ s. (edge_meets n (with_edge d x y (neg_ℤ c)) y x c closed q p v).1
+          ((edge_meets n d x y (neg_ℤ c) h p q v).1 (s.0, equal_first (v x) (v y) c s.1), equal_second (v x) (v y) c s.1)),
+    )
 
 pub equal_closed : (n : ℕ) (d : ℕ → ℕ → ℤ) → IsClosed n d → (x y : ℕ) (c : ℤ) → x < n → y < n → neg_ℤ (d x y) ≤ℤ c → c ≤ℤ d y x → IsClosed n (with_edge (with_edge d x y (neg_ℤ c)) y x c)
 equal_closed n d h x y c p q low high =
@@ -193,11 +194,11 @@ equal_closed n d h x y c p q low high =
 pub may_eq : (n : ℕ) (d : ℕ → ℕ → ℤ) → IsClosed n d → 0 < n → (x y : ℕ) (c : ℤ) → x < n → y < n → ((neg_ℤ (d x y) ≤ℤ c) × (c ≤ℤ d y x)) ↔ ((v : ℕ → ℤ) × Meets n d v × ((v x +ℤ c) ≡ v y))
 may_eq n d h some x y c p q = (
   (λ e.
-  let e2 = with_edge (with_edge d x y (neg_ℤ c)) y x c in
-  let u = λ (i : ℕ). neg_ℤ (e2 0 i) in
-  let both = (equal_meets n d h x y c p q e.0 e.1 u).0 (least_meets n e2 (equal_closed n d h x y c p q e.0 e.1) some) in
-  (u, both.0, both.1)),
+      let e2 = with_edge (with_edge d x y (neg_ℤ c)) y x c in
+      let u = λ (i : ℕ). neg_ℤ (e2 0 i) in
+      let both = (equal_meets n d h x y c p q e.0 e.1 u).0 (least_meets n e2 (equal_closed n d h x y c p q e.0 e.1) some) in
+      (u, both.0, both.1)),
   (λ w. let a = w.1.within x y p q in let b = w.1.within y x q p in
-  let f = equal_first (w.0 x) (w.0 y) c w.2 in let g = equal_second (w.0 x) (w.0 y) c w.2 in
-  (omega (arith, ints), omega (arith, ints))),
+      let f = equal_first (w.0 x) (w.0 y) c w.2 in let g = equal_second (w.0 x) (w.0 y) c w.2 in
+      (omega (arith, ints), omega (arith, ints))),
 )

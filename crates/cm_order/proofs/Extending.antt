@@ -65,28 +65,28 @@ extended_closed n d lo hi h some low order high = record {
 pub extended_meets : (n : ℕ) (d : ℕ → ℕ → ℤ) (lo hi : ℤ) → IsClosed n d → 0 < n → (v : ℕ → ℤ) → Meets (n + 1) (extended n d lo hi) v ↔ (Meets n d v × ((lo ≤ℤ v n) × (v n ≤ℤ hi)))
 extended_meets n d lo hi h some v = (
   (λ s.
-  let z = s.zero in
-  let o = h.zero 0 some in
-  let a = rw (from_new n d lo hi n 0 (omega arith) some) at (s.within n 0 (omega arith) (omega arith)) in
-  let b = rw (to_new n d lo hi 0 n some (omega arith)) at (s.within 0 n (omega arith) (omega arith)) in
-  (record { zero = s.zero; within = λ i j p q. rw (old_pair n d lo hi i j p q) at (s.within i j (omega arith) (omega arith)) }, (omega (arith, ints), omega (arith, ints)))),
+      let z = s.zero in
+      let o = h.zero 0 some in
+      let a = rw (from_new n d lo hi n 0 (omega arith) some) at (s.within n 0 (omega arith) (omega arith)) in
+      let b = rw (to_new n d lo hi 0 n some (omega arith)) at (s.within 0 n (omega arith) (omega arith)) in
+      (record { zero = s.zero; within = λ i j p q. rw (old_pair n d lo hi i j p q) at (s.within i j (omega arith) (omega arith)) }, (omega (arith, ints), omega (arith, ints)))),
   (λ s.
-  let z = s.0.zero in
-  let low = s.1.0 in
-  let high = s.1.1 in
-  record {
-    zero = s.0.zero;
-    within = λ i j p q. elim (cases_lt i n) [
-      | inl a ↦ elim (cases_lt j n) [
-        | inl b ↦ rw (old_pair n d lo hi i j a b) (s.0.within i j a b)
-        | inr b ↦ let last : j ≡ n = omega arith in let t = s.0.within i 0 a some in rw (to_new n d lo hi i j a b, last) (omega (arith, ints))
-      ]
-      | inr a ↦ let first : i ≡ n = omega arith in elim (cases_lt j n) [
-        | inl b ↦ let t = s.0.within 0 j some b in rw (from_new n d lo hi i j a b, first) (omega (arith, ints))
-        | inr b ↦ let last : j ≡ n = omega arith in rw (new_self n d lo hi i j a b, first, last) (omega (arith, ints))
-      ]
-    ];
-  }),
+      let z = s.0.zero in
+      let low = s.1.0 in
+      let high = s.1.1 in
+      record {
+        zero = s.0.zero;
+        within = λ i j p q. elim (cases_lt i n) [
+          | inl a ↦ elim (cases_lt j n) [
+            | inl b ↦ rw (old_pair n d lo hi i j a b) (s.0.within i j a b)
+            | inr b ↦ let last : j ≡ n = omega arith in let t = s.0.within i 0 a some in rw (to_new n d lo hi i j a b, last) (omega (arith, ints))
+          ]
+          | inr a ↦ let first : i ≡ n = omega arith in elim (cases_lt j n) [
+            | inl b ↦ let t = s.0.within 0 j some b in rw (from_new n d lo hi i j a b, first) (omega (arith, ints))
+            | inr b ↦ let last : j ≡ n = omega arith in rw (new_self n d lo hi i j a b, first, last) (omega (arith, ints))
+          ]
+        ];
+      }),
 )
 
 -- entries to which a shell was added
@@ -106,11 +106,11 @@ pub fresh_keeps : (n : ℕ) (old new : List ℤ) (lo hi : ℤ) → IsProper n ol
     → Keeps (rows_of n old) (rows_of (n + 1) new) (λ v. (lo ≤ℤ v n) × (v n ≤ℤ hi))
 fresh_keeps n old new lo hi h same v = (
   (λ s.
-  let m = meets_same (n + 1) (entry new) (extended n (entry old) lo hi) v (λ i j p q. sym (same i j (omega arith) (omega arith))) (meets_from (n + 1) new v s) in
-  let k = (extended_meets n (entry old) lo hi h.closed h.some v).0 m in
-  (satisfies_from n old v k.0, k.1)),
+      let m = meets_same (n + 1) (entry new) (extended n (entry old) lo hi) v (λ i j p q. sym (same i j (omega arith) (omega arith))) (meets_from (n + 1) new v s) in
+      let k = (extended_meets n (entry old) lo hi h.closed h.some v).0 m in
+      (satisfies_from n old v k.0, k.1)),
   (λ s. satisfies_from (n + 1) new v (meets_same (n + 1) (extended n (entry old) lo hi) (entry new) v (λ i j p q. same i j (omega arith) (omega arith))
-  ((extended_meets n (entry old) lo hi h.closed h.some v).1 (meets_from n old v s.0, s.1)))),
+      ((extended_meets n (entry old) lo hi h.closed h.some v).1 (meets_from n old v s.0, s.1)))),
 )
 
 pub same_shell : (n : ℕ) (before old new : List ℤ) (lo hi : ℤ) → ((p : ℕ) → number_at before p ≡ number_at old p)

@@ -28,8 +28,8 @@ filled_more n k old now lo hi above below h long f is_above is_below = record {
   same = λ i j p q. let w = place_within n i j p q in both_other now (n * n + k) (n * n + n + 1 + k) (place i j) above below (λ e. absurd (omega arith)) (λ e. absurd (omega arith)) ∙ f.same i j p q;
   row = λ j p. let at : place n j ≡ n * n + j = place_lower n j (omega arith) in elim (cases_eq j k) [
     | inl e ↦ rw (at, e)
-      (get_or-set_other (slice_set now (n * n + k) above) (n * n + n + 1 + k) (n * n + k) below (pos 0) (λ g. absurd (omega arith))
-      ∙ get_or-set_same now (n * n + k) above (pos 0) (omega (arith, shell_long n)) ∙ is_above)
+        (get_or-set_other (slice_set now (n * n + k) above) (n * n + n + 1 + k) (n * n + k) below (pos 0) (λ g. absurd (omega arith))
+        ∙ get_or-set_same now (n * n + k) above (pos 0) (omega (arith, shell_long n)) ∙ is_above)
     | inr g ↦ both_other now (n * n + k) (n * n + n + 1 + k) (place n j) above below (λ e. g (omega arith)) (λ e. absurd (omega arith)) ∙ f.row j (omega arith)
   ];
   column = λ i p. let at : place i n ≡ n * n + n + 1 + i = place_upper i n (omega arith) in elim (cases_eq i k) [
@@ -44,15 +44,15 @@ pub filled_all : (n : ℕ) (old now : List ℤ) (lo hi : ℤ) → (n + 1) * (n +
 filled_all n old now lo hi long f i j p q = elim (cases_lt i n) [
   | inl a ↦ elim (cases_lt j n) [
     | inl b ↦ let w = place_within n i j a b in
-      rw (lt-ltb i n a, lt-ltb j n b) (get_or-set_other now (n * n + n) (place i j) (pos 0) (pos 0) (λ e. absurd (omega arith)) ∙ f.same i j a b)
+        rw (lt-ltb i n a, lt-ltb j n b) (get_or-set_other now (n * n + n) (place i j) (pos 0) (pos 0) (λ e. absurd (omega arith)) ∙ f.same i j a b)
     | inr b ↦ let last : j ≡ n = omega arith in let at : place i n ≡ n * n + n + 1 + i = place_upper i n a in
-      rw (last, lt-ltb i n a, le-ltb n n (omega arith)) (get_or-set_other now (n * n + n) (place i n) (pos 0) (pos 0) (λ e. absurd (omega arith)) ∙ f.column i a)
+        rw (last, lt-ltb i n a, le-ltb n n (omega arith)) (get_or-set_other now (n * n + n) (place i n) (pos 0) (pos 0) (λ e. absurd (omega arith)) ∙ f.column i a)
   ]
   | inr a ↦ let first : i ≡ n = omega arith in elim (cases_lt j n) [
     | inl b ↦ let at : place n j ≡ n * n + j = place_lower n j (omega arith) in
-      rw (first, le-ltb n n (omega arith), lt-ltb j n b) (get_or-set_other now (n * n + n) (place n j) (pos 0) (pos 0) (λ e. absurd (omega arith)) ∙ f.row j b)
+        rw (first, le-ltb n n (omega arith), lt-ltb j n b) (get_or-set_other now (n * n + n) (place n j) (pos 0) (pos 0) (λ e. absurd (omega arith)) ∙ f.row j b)
     | inr b ↦ let last : j ≡ n = omega arith in let at : place n n ≡ n * n + n = place_lower n n (omega arith) in
-      rw (first, last, le-ltb n n (omega arith), at) (get_or-set_same now (n * n + n) (pos 0) (pos 0) (omega (arith, shell_long n)))
+        rw (first, last, le-ltb n n (omega arith), at) (get_or-set_same now (n * n + n) (pos 0) (pos 0) (omega (arith, shell_long n)))
   ]
 ]
 

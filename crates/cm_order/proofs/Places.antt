@@ -40,43 +40,43 @@ pub shell_at : (old mid new column row : List ℤ) (m i j : ℕ) (by over : List
     → entry new i j ≡ (cond (max i j == m) (lowered (entry old) column row i j) (entry old i j))
 shell_at old mid new column row m i j by over h by_long by_is over_long over_is first second = elim (cases_lt i j) [
   | inl e ↦
-    let p_is : place i j ≡ j * j + j + 1 + i = place_upper i j e in
-    let greatest : max i j ≡ j = omega arith in
-    rw greatest (elim (cases_order j m) [
-      | inl f ↦
-        let p_is_m : place i j ≡ m * m + m + 1 + i = p_is ∙ ap (λ n. n * n + n + 1 + i) f in
-        let before : number_at mid (place i j) ≡ number_at old (place i j) = first (place i j) ∙ relaxed_above old (m * m) by (number_at column m) (length by) (place i j) (omega arith) in
-        let back : place i j - (m * m + m + 1) ≡ i = omega arith in
-        rw (eq-eqb j m f) (second (place i j) ∙ relaxed_in mid (m * m + m + 1) over (number_at row m) (length over) (place i j) (omega arith) (omega arith)
-        ∙ rw (before, back, over_is i (omega arith), f) (ap (int_min (entry old i m)) (add_comm_int (number_at row m) (number_at column i))))
-      | inr (inl f) ↦
-        let grow : j * j + j + j + 1 ≤ m * m = square_grow j m f in
-        rw (ne_eqb j m (omega arith)) (second (place i j) ∙ relaxed_below mid (m * m + m + 1) over (number_at row m) (length over) (place i j) (omega arith)
-        ∙ first (place i j) ∙ relaxed_below old (m * m) by (number_at column m) (length by) (place i j) (omega arith))
-      | inr (inr f) ↦
-        let grow : m * m + m + m + 1 ≤ j * j = square_grow m j f in
-        rw (ne_eqb j m (omega arith)) (second (place i j) ∙ relaxed_above mid (m * m + m + 1) over (number_at row m) (length over) (place i j) (omega arith)
-        ∙ first (place i j) ∙ relaxed_above old (m * m) by (number_at column m) (length by) (place i j) (omega arith))
-    ])
+      let p_is : place i j ≡ j * j + j + 1 + i = place_upper i j e in
+      let greatest : max i j ≡ j = omega arith in
+      rw greatest (elim (cases_order j m) [
+        | inl f ↦
+            let p_is_m : place i j ≡ m * m + m + 1 + i = p_is ∙ ap (λ n. n * n + n + 1 + i) f in
+            let before : number_at mid (place i j) ≡ number_at old (place i j) = first (place i j) ∙ relaxed_above old (m * m) by (number_at column m) (length by) (place i j) (omega arith) in
+            let back : place i j - (m * m + m + 1) ≡ i = omega arith in
+            rw (eq-eqb j m f) (second (place i j) ∙ relaxed_in mid (m * m + m + 1) over (number_at row m) (length over) (place i j) (omega arith) (omega arith)
+            ∙ rw (before, back, over_is i (omega arith), f) (ap (int_min (entry old i m)) (add_comm_int (number_at row m) (number_at column i))))
+        | inr (inl f) ↦
+            let grow : j * j + j + j + 1 ≤ m * m = square_grow j m f in
+            rw (ne_eqb j m (omega arith)) (second (place i j) ∙ relaxed_below mid (m * m + m + 1) over (number_at row m) (length over) (place i j) (omega arith)
+            ∙ first (place i j) ∙ relaxed_below old (m * m) by (number_at column m) (length by) (place i j) (omega arith))
+        | inr (inr f) ↦
+            let grow : m * m + m + m + 1 ≤ j * j = square_grow m j f in
+            rw (ne_eqb j m (omega arith)) (second (place i j) ∙ relaxed_above mid (m * m + m + 1) over (number_at row m) (length over) (place i j) (omega arith)
+            ∙ first (place i j) ∙ relaxed_above old (m * m) by (number_at column m) (length by) (place i j) (omega arith))
+      ])
   | inr e ↦
-    let p_is : place i j ≡ i * i + j = place_lower i j e in
-    let greatest : max i j ≡ i = omega arith in
-    rw greatest (elim (cases_order i m) [
-      | inl f ↦
-        let p_is_m : place i j ≡ m * m + j = p_is ∙ ap (λ n. n * n + j) f in
-        let back : place i j - m * m ≡ j = omega arith in
-        rw (eq-eqb i m f) (second (place i j) ∙ relaxed_below mid (m * m + m + 1) over (number_at row m) (length over) (place i j) (omega arith)
-        ∙ first (place i j) ∙ relaxed_in old (m * m) by (number_at column m) (length by) (place i j) (omega arith) (omega arith)
-        ∙ rw (back, by_is j (omega arith), f) refl)
-      | inr (inl f) ↦
-        let grow : i * i + i + i + 1 ≤ m * m = square_grow i m f in
-        rw (ne_eqb i m (omega arith)) (second (place i j) ∙ relaxed_below mid (m * m + m + 1) over (number_at row m) (length over) (place i j) (omega arith)
-        ∙ first (place i j) ∙ relaxed_below old (m * m) by (number_at column m) (length by) (place i j) (omega arith))
-      | inr (inr f) ↦
-        let grow : m * m + m + m + 1 ≤ i * i = square_grow m i f in
-        rw (ne_eqb i m (omega arith)) (second (place i j) ∙ relaxed_above mid (m * m + m + 1) over (number_at row m) (length over) (place i j) (omega arith)
-        ∙ first (place i j) ∙ relaxed_above old (m * m) by (number_at column m) (length by) (place i j) (omega arith))
-    ])
+      let p_is : place i j ≡ i * i + j = place_lower i j e in
+      let greatest : max i j ≡ i = omega arith in
+      rw greatest (elim (cases_order i m) [
+        | inl f ↦
+            let p_is_m : place i j ≡ m * m + j = p_is ∙ ap (λ n. n * n + j) f in
+            let back : place i j - m * m ≡ j = omega arith in
+            rw (eq-eqb i m f) (second (place i j) ∙ relaxed_below mid (m * m + m + 1) over (number_at row m) (length over) (place i j) (omega arith)
+            ∙ first (place i j) ∙ relaxed_in old (m * m) by (number_at column m) (length by) (place i j) (omega arith) (omega arith)
+            ∙ rw (back, by_is j (omega arith), f) refl)
+        | inr (inl f) ↦
+            let grow : i * i + i + i + 1 ≤ m * m = square_grow i m f in
+            rw (ne_eqb i m (omega arith)) (second (place i j) ∙ relaxed_below mid (m * m + m + 1) over (number_at row m) (length over) (place i j) (omega arith)
+            ∙ first (place i j) ∙ relaxed_below old (m * m) by (number_at column m) (length by) (place i j) (omega arith))
+        | inr (inr f) ↦
+            let grow : m * m + m + m + 1 ≤ i * i = square_grow m i f in
+            rw (ne_eqb i m (omega arith)) (second (place i j) ∙ relaxed_above mid (m * m + m + 1) over (number_at row m) (length over) (place i j) (omega arith)
+            ∙ first (place i j) ∙ relaxed_above old (m * m) by (number_at column m) (length by) (place i j) (omega arith))
+      ])
 ]
 
 pub place_in : (n x y : ℕ) (entries : List ℤ) → x < n → y < n → (n + 1) * (n + 1) ≤ length entries → place x y < length entries

@@ -21,10 +21,10 @@ pub relaxed_more : (cells now others : List ℤ) (start : ℕ) (by : ℤ) (k : �
     → (p : ℕ) → number_at (slice_set now (start + k) (int_min (number_at now (start + k)) (by +ℤ number_at others k))) p ≡ relaxed cells start others by (k + 1) p
 relaxed_more cells now others start by k h room long before p = elim (cases_eq p (start + k)) [
   | inl e ↦
-    let old : number_at now (start + k) ≡ number_at cells (start + k) = before (start + k) ∙ relaxed_above cells start others by k (start + k) (omega arith) in
-    let back : (start + k) - start ≡ k = omega arith in
-    rw (e, get_or-set_same now (start + k) (int_min (number_at now (start + k)) (by +ℤ number_at others k)) (pos 0) (omega arith), old)
-    (sym (relaxed_in cells start others by (k + 1) (start + k) (omega arith) (omega arith) ∙ ap (λ i. int_min (number_at cells (start + k)) (by +ℤ number_at others i)) back))
+      let old : number_at now (start + k) ≡ number_at cells (start + k) = before (start + k) ∙ relaxed_above cells start others by k (start + k) (omega arith) in
+      let back : (start + k) - start ≡ k = omega arith in
+      rw (e, get_or-set_same now (start + k) (int_min (number_at now (start + k)) (by +ℤ number_at others k)) (pos 0) (omega arith), old)
+      (sym (relaxed_in cells start others by (k + 1) (start + k) (omega arith) (omega arith) ∙ ap (λ i. int_min (number_at cells (start + k)) (by +ℤ number_at others i)) back))
   | inr f ↦ get_or-set_other now (start + k) p (int_min (number_at now (start + k)) (by +ℤ number_at others k)) (pos 0) f ∙ before p ∙ same p f
 ]
   where

@@ -27,9 +27,9 @@ pub satisfies_from : (n : ℕ) (entries : List ℤ) (v : ℕ → ℤ) → Meets 
 satisfies_from n entries v s = record {
   zero = s.zero;
   within = λ x y p q.
-  let xn : x < n = omega (arith, count_of_rows n entries) in
-  let yn : y < n = omega (arith, count_of_rows n entries) in
-  rw (row_at n entries x y xn yn) (s.within x y xn yn);
+      let xn : x < n = omega (arith, count_of_rows n entries) in
+      let yn : y < n = omega (arith, count_of_rows n entries) in
+      rw (row_at n entries x y xn yn) (s.within x y xn yn);
 }
 
 pub satisfiable : (n : ℕ) (entries : List ℤ) → IsProper n entries → IsSatisfiable (rows_of n entries)

@@ -157,11 +157,7 @@ impl Bounds {
         ensures some { 0 < length self.now }
         ensures closed { IsClosed (length self.now) (difference self.now) }
     {
-        i64::from(shells::entry(
-            self.entries.as_slice(),
-            x.0 as usize,
-            y.0 as usize,
-        ))
+        i64::from(shells::entry(self.entries.as_slice(), x.0 as usize, y.0 as usize))
     }
 
     /// Keeps the valuations in which `x` exceeds `y` by at most `most`.

@@ -5,3 +5,6 @@ mod bounds;
 mod shells;
 
 pub use bounds::{Bounds, OrderMask};
+
+#[cfg(test)]
+mod tests;

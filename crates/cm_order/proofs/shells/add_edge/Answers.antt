@@ -11,7 +11,7 @@ entry-requires-clause-within c = place_in c.args.count c.args.x c.args.y c.args.
 pub returns-else-most-entry : goal.returns-else-most-entry
 returns-else-most-entry c =
     let known : entry c.args.entries.now c.args.x c.args.y ≤ℤ c.args.most =
-        let result : FitsSigned w32 c.entry.result = search rules in
-        rw (← c.entry.ensures) (not_below_bits c.args.most c.entry.result c.ranges.most result c.if-most-entry.false)
+    let result : FitsSigned w32 c.entry.result = search rules in
+    rw (← c.entry.ensures) (not_below_bits c.args.most c.entry.result c.ranges.most result c.if-most-entry.false)
     in
     edge_known c.args.count (entry c.args.entries.now) c.args.x c.args.y c.args.most c.requires.proper.closed c.requires.x c.requires.y known

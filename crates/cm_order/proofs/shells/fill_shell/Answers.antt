@@ -37,8 +37,16 @@ cells-preserved c =
     let above = above_fits n k d c.args.lo c.args.hi c.requires.proper.closed c.cells-test.true c.requires.low c.requires.order c.requires.high in
     let below = below_fits n k d c.args.lo c.args.hi c.requires.proper.closed c.cells-test.true c.requires.low c.requires.order c.requires.high in
     let filled = rw (to_z-of_z w32 c.args.lo c.ranges.lo, to_z-of_z w32 c.args.hi c.ranges.hi) at c.cells.invariant in
-    rw (to_z-of_z w32 c.args.hi c.ranges.hi, to_z-of_z w32 c.args.lo c.ranges.lo, to_z-of_z w32 c.entry.result first, to_z-of_z w32 c.entry-in-cells.result second,
-    first_is, second_is, to_z-of_z w32 (c.args.hi +ℤ d 0 k) above, to_z-of_z w32 (d k 0 -ℤ c.args.lo) below)
+    rw (
+      to_z-of_z w32 c.args.hi c.ranges.hi,
+      to_z-of_z w32 c.args.lo c.ranges.lo,
+      to_z-of_z w32 c.entry.result first,
+      to_z-of_z w32 c.entry-in-cells.result second,
+      first_is,
+      second_is,
+      to_z-of_z w32 (c.args.hi +ℤ d 0 k) above,
+      to_z-of_z w32 (d k 0 -ℤ c.args.lo) below,
+    )
     (filled_more n k c.args.entries.now c.cells.entries c.args.lo c.args.hi (c.args.hi +ℤ d 0 k) (d k 0 -ℤ c.args.lo) c.cells-test.true (omega (arith, c.requires.proper.long, c.cells.auto.entries)) filled refl refl)
 
 pub returns : goal.returns

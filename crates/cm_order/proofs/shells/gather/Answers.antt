@@ -18,7 +18,7 @@ lines-preserved c =
     let sum = c.requires.fits c.lines.k c.lines-test.true in
     record {
       column = λ k h. rw (to_z-of_z w32 c.entry.result first, to_z-of_z w32 c.args.most c.ranges.most, c.entry.ensures, to_z-of_z w32 (entry c.args.cells.now c.lines.k c.args.x +ℤ c.args.most) sum)
-      (fill_by_more (λ i. entry c.args.cells.now i c.args.x +ℤ c.args.most) c.lines.column c.lines.k (pos 0) (omega arith) (rw (to_z-of_z w32 c.args.most c.ranges.most) at c.lines.invariant.column) k h);
+          (fill_by_more (λ i. entry c.args.cells.now i c.args.x +ℤ c.args.most) c.lines.column c.lines.k (pos 0) (omega arith) (rw (to_z-of_z w32 c.args.most c.ranges.most) at c.lines.invariant.column) k h);
       row = λ k h. rw (to_z-of_z w32 c.entry-in-lines.result second, c.entry-in-lines.ensures)
-      (fill_by_more (entry c.args.cells.now c.args.y) c.lines.row c.lines.k (pos 0) (omega arith) c.lines.invariant.row k h);
+          (fill_by_more (entry c.args.cells.now c.args.y) c.lines.row c.lines.k (pos 0) (omega arith) c.lines.invariant.row k h);
     }

@@ -11,10 +11,10 @@ add_edge-requires-2-clause-may c =
 pub returns-clause-kept : goal.returns-clause-kept
 returns-clause-kept c = λ v. (
   (λ s.
-  let second = (c.add_edge-2.ensures.kept v).0 s in
-  let first = (c.add_edge.ensures.kept v).0 second.0 in
-  let high = first.1 in
-  let low = second.1 in
-  (first.0, omega (arith, ints))),
+      let second = (c.add_edge-2.ensures.kept v).0 s in
+      let first = (c.add_edge.ensures.kept v).0 second.0 in
+      let high = first.1 in
+      let low = second.1 in
+      (first.0, omega (arith, ints))),
   (λ s. let same = s.1 in (c.add_edge-2.ensures.kept v).1 ((c.add_edge.ensures.kept v).1 (s.0, omega (arith, ints)), omega (arith, ints))),
 )
