@@ -1,12 +1,12 @@
 -- One more variable keeps differences closed.
-use Rattle.std.proofs.Common.{◌≡◌, ◌<◌, ◌≤◌, ◌+◌, ◌*◌, ◌^◌, ◌↔◌, ◌⊎◌, inl, inr, ℕ, ℤ, pos, negsuc, ◌+ℤ◌, ◌-ℤ◌, ◌≤ℤ◌, List, length, refl, sym, ap, ◌∙◌, arith}
+use Rattle.std.proofs.Common.{◌≡◌, ◌<◌, ◌≤◌, ◌+◌, ◌*◌, ◌^◌, ◌↔◌, inl, inr, ℕ, ℤ, pos, negsuc, ◌+ℤ◌, ◌-ℤ◌, ◌≤ℤ◌, List, length, refl, sym, ap, ◌∙◌, arith}
 use Rattle.std.proofs.lemmas.Bool.{cases_lt, le-ltb, lt-ltb}
 use Rattle.std.proofs.lemmas.Int.{ints}
 use Rattle.cm_order.specs.Differences.{Keeps}
 use Rattle.cm_order.specs.Shells.{IsClosed, IsProper, entry, extended, number_at, place, rows_of}
 use Rattle.cm_order.proofs.Closing.{Meets, closed_same, meets_same}
 use Rattle.cm_order.proofs.Filling.{shell_long}
-use Rattle.cm_order.proofs.Valuations.{count_of_rows, meets_from, satisfies_from}
+use Rattle.cm_order.proofs.Valuations.{meets_from, satisfies_from}
 
 old_pair : (n : ℕ) (d : ℕ → ℕ → ℤ) (lo hi : ℤ) (i j : ℕ) → i < n → j < n → extended n d lo hi i j ≡ d i j
 old_pair n d lo hi i j p q = rw (lt-ltb i n p, lt-ltb j n q) refl

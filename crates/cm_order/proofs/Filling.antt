@@ -1,13 +1,12 @@
 -- The shell of one more variable.
-use Rattle.std.proofs.Common.{◌≡◌, ◌<◌, ◌≤◌, ◌+◌, ◌*◌, ◌⊎◌, inl, inr, ℕ, ℤ, pos, negsuc, ◌+ℤ◌, ◌-ℤ◌, ◌≤ℤ◌, FitsSigned, w32, List, length, slice_set, refl, sym, ap, ◌∙◌, arith}
+use Rattle.std.proofs.Common.{◌≡◌, ◌<◌, ◌≤◌, ◌+◌, ◌*◌, inl, inr, ℕ, ℤ, pos, negsuc, ◌+ℤ◌, ◌-ℤ◌, ◌≤ℤ◌, FitsSigned, w32, List, length, slice_set, ◌∙◌, arith}
 use Rattle.std.proofs.lemmas.Bool.{cases_eq, cases_lt, lt-ltb, le-ltb}
 use Rattle.std.proofs.lemmas.Int.{ints}
 use Rattle.std.proofs.lemmas.List.{get_or-set_same, get_or-set_other, length-set}
-use Rattle.std.proofs.lemmas.Nat.{mul-le}
 use Rattle.std.proofs.Math.Nat.{mul-suc, suc-mul}
 use Rattle.cm_order.specs.Shells.{IsClosed, entry, extended, number_at, place}
 use Rattle.cm_order.proofs.Closing.{entry_high, entry_low, fits_between}
-use Rattle.cm_order.proofs.Places.{place_lower, place_upper, place_within, square_grow}
+use Rattle.cm_order.proofs.Places.{place_lower, place_upper, place_within}
 
 -- the first k pairs of the shell of variable n are written
 pub record Filled (n k : ℕ) (old now : List ℤ) (lo hi : ℤ) : Type 0 where

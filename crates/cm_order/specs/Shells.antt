@@ -1,5 +1,5 @@
 -- How bounds are kept: a list of shells, each one variable's differences with those before it.
-use Rattle.std.specs.Prelude.{◌≡◌, ◌<◌, ◌≤◌, ◌+◌, ◌-◌, ◌*◌, ◌^◌, ◌&&◌, ℕ, ℤ, pos, ◌+ℤ◌, ◌-ℤ◌, ◌≤ℤ◌, nat_le, nat_lt, if◌then◌else◌, List, length, map, max, slice_index_or}
+use Rattle.std.specs.Prelude.{◌≡◌, ◌<◌, ◌≤◌, ◌+◌, ◌-◌, ◌*◌, ◌^◌, ◌&&◌, ℕ, ℤ, pos, ◌+ℤ◌, ◌-ℤ◌, ◌≤ℤ◌, nat_le, nat_lt, if◌then◌else◌, List, length, map, slice_index_or}
 use Rattle.std.specs.Int.{int_min}
 use Rattle.std.specs.List.{range_with_len}
 use Rattle.cm_order.specs.Differences.{Differences}

@@ -1,13 +1,13 @@
 -- The valuations of classes as they are kept.
-use Rattle.std.proofs.Common.{◌≡◌, ◌≢◌, ◌<◌, ◌≤◌, ◌+◌, ◌^◌, ◌==◌, ◌&&◌, ◌||◌, ◌↔◌, ◌⊎◌, inl, inr, ℕ, Bool, true, false, not, cond, List, [], ◌∷◌, ◌++◌, length, map, slice_index, slice_index_or, IsTrue, refl, sym, ap, ◌∙◌, arith}
+use Rattle.std.proofs.Common.{◌≡◌, ◌≢◌, ◌<◌, ◌≤◌, ◌+◌, ◌^◌, ◌==◌, ◌↔◌, ◌⊎◌, inl, inr, ℕ, true, false, not, cond, List, [], ◌∷◌, ◌++◌, length, map, slice_index, slice_index_or, IsTrue, refl, sym, ap, ◌∙◌, arith}
 use Rattle.std.specs.List.{range_with_len}
-use Rattle.std.proofs.lemmas.Bool.{cases_eq, cases_lt, cases_order, cases_Bool, not-true, not_from_false, eq-eqb, ne_eqb, eqb-true, eqb-false}
+use Rattle.std.proofs.lemmas.Bool.{cases_eq, cases_lt, cases_order, cases_Bool, not-true, not_from_false, ne_eqb, eqb-false}
 use Rattle.std.proofs.lemmas.Bool.Decides.{nat_tests}
 use Rattle.std.proofs.lemmas.List.{get_or_append_left, get_or_at, length_push, length-map, map-append}
 use Rattle.std.proofs.lemmas.List.FromFn.{get_or-map-range_with_len}
 use Rattle.cm_sorts.specs.declared.words.Variable.{Variable}
 use Rattle.cm_sorts.specs.Pairs.{are_marked}
-use Rattle.cm_sorts.specs.Partition.{Partition, Satisfies, IsSatisfiable, Allows, Implies}
+use Rattle.cm_sorts.specs.Partition.{Satisfies, IsSatisfiable, Allows, Implies}
 use Rattle.cm_sorts.specs.Words.{labels_of, rows_of, partition_of, IsProper}
 use Rattle.cm_sorts.proofs.Sharing.{are_marked_comm, nothing_marked, unmarked_self}
 

@@ -1,5 +1,4 @@
-use Rattle.std.proofs.Common.{◌≤ℤ◌, ◌∙◌, FitsSigned, w32, rules, arith}
-use Rattle.std.proofs.lemmas.Int.{ints}
+use Rattle.std.proofs.Common.{◌≤ℤ◌, FitsSigned, w32, rules}
 use Rattle.cm_order.specs.Shells.{entry}
 use Rattle.cm_order.proofs.Closing.{edge_known, not_below_bits}
 use Rattle.cm_order.proofs.Places.{place_in}

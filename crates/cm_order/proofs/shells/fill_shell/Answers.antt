@@ -1,4 +1,4 @@
-use Rattle.std.proofs.Common.{◌<◌, ◌≤◌, ◌+◌, ◌*◌, ◌+ℤ◌, ◌-ℤ◌, ◌≡◌, ◌∙◌, length, refl, FitsSigned, w32, rules, arith}
+use Rattle.std.proofs.Common.{◌+ℤ◌, ◌-ℤ◌, ◌≡◌, ◌∙◌, refl, FitsSigned, w32, rules, arith}
 use Rattle.std.proofs.lemmas.Int.{to_z-of_z}
 use Rattle.cm_order.specs.Shells.{entry}
 use Rattle.cm_order.proofs.Filling.{above_fits, below_fits, filled_all, filled_more}

@@ -1,4 +1,4 @@
-use Rattle.std.proofs.Common.{◌+ℤ◌, pos, FitsSigned, w32, ap, ◌∙◌, arith, rules}
+use Rattle.std.proofs.Common.{◌+ℤ◌, pos, FitsSigned, w32, arith, rules}
 use Rattle.std.proofs.lemmas.Int.{to_z-of_z}
 use Rattle.std.proofs.lemmas.List.Edits.{fill_by_more}
 use Rattle.cm_order.specs.Shells.{entry}

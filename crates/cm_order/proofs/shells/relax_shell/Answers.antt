@@ -1,4 +1,4 @@
-use Rattle.std.proofs.Common.{◌<◌, ◌+◌, ◌+ℤ◌, ℕ, pos, length, take, FitsSigned, w32, rules, arith, subst}
+use Rattle.std.proofs.Common.{◌<◌, ◌+◌, pos, take, FitsSigned, w32, rules, arith}
 use Rattle.std.proofs.lemmas.Int.{to_z-of_z}
 use Rattle.std.proofs.lemmas.List.{get_or-take, length-take-le}
 use Rattle.cm_order.specs.Shells.{number_at}

@@ -1,4 +1,4 @@
-use Rattle.std.proofs.Common.{◌∙◌, pos, ap, length}
+use Rattle.std.proofs.Common.{◌∙◌, ap, length}
 use Rattle.cm_order.specs.Shells.{number_at}
 use Rattle.cm_order.proofs.Valuations.{one_proper, satisfiable}
 use Rattle.cm_order.proofs.bounds.Bounds.new.Goals as goal

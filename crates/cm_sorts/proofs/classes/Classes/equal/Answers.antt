@@ -1,8 +1,7 @@
-use Rattle.std.proofs.Common.{◌∙◌, ◌≡◌, sym, slice_index}
+use Rattle.std.proofs.Common.{◌∙◌}
 use Rattle.std.proofs.lemmas.List.{with_items_is}
 use Rattle.std.specs.Vec.{with_items}
-use Rattle.cm_sorts.specs.Words.{labels_of}
-use Rattle.cm_sorts.proofs.Joining.{equal_already, equal_kept, equal_may, equal_proper, sorts_relabelled}
+use Rattle.cm_sorts.proofs.Joining.{equal_kept, equal_may, equal_proper, sorts_relabelled}
 use Rattle.cm_sorts.proofs.Valuations.{satisfiable}
 use Rattle.cm_sorts.proofs.classes.Classes.equal.Goals as goal
 

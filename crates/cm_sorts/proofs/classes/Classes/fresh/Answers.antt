@@ -1,7 +1,7 @@
 use Rattle.std.proofs.Common.{◌≡◌, ◌++◌, ◌∷◌, [], length, arith, ap, ◌∙◌, refl}
 use Rattle.std.proofs.lemmas.List.{length-map}
 use Rattle.cm_sorts.specs.declared.words.Variable.{Variable}
-use Rattle.cm_sorts.specs.Words.{labels_of, IsProper}
+use Rattle.cm_sorts.specs.Words.{labels_of}
 use Rattle.cm_sorts.proofs.Valuations.{fresh_kept, fresh_labels, fresh_proper, satisfiable}
 use Rattle.cm_sorts.proofs.classes.Classes.fresh.Goals as goal
 use Rattle.cm_sorts.proofs.classes.Classes.fresh.Goals.{In_ok-push}
