@@ -3,9 +3,12 @@
 
 mod memory;
 mod name;
+mod variable;
 
 pub use memory::NoMemory;
 pub use name::Name;
+pub use variable::{IntVar, SortVar};
+
 use sqlite_items::Items;
 
 /// A sequence that contracts see as the list of its items.

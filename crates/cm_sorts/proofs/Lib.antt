@@ -1,0 +1,4 @@
+pub mod Joining
+pub mod Sharing
+pub mod Triangle
+pub mod Valuations

@@ -1,0 +1,25 @@
+use super::*;
+use std::test::Fail;
+
+#[test]
+fn equal_to_one_that_differs(rt: HostRuntime) -> Result<(), Fail> {
+    let mut classes = Classes::new(rt.alloc());
+    let x = classes.fresh(5)?;
+    let y = classes.fresh(5)?;
+    let z = classes.fresh(5)?;
+    classes.reserve()?;
+    assert!(rt; classes.may_equal(x, y));
+    assert!(rt; classes.may_differ(x, y));
+    classes.differ(x, y);
+    assert!(rt; !classes.may_equal(x, y));
+    assert!(rt; classes.may_equal(y, z));
+    classes.equal(y, z);
+    assert!(rt; !classes.may_equal(x, z));
+    assert!(rt; classes.may_differ(x, z));
+    assert!(rt; !classes.may_differ(y, z));
+    assert_eq!(rt; classes.pick(z), y);
+    let copy = classes.try_copy(rt.alloc())?;
+    assert!(rt; !copy.may_equal(x, z));
+    assert_eq!(rt; copy.pick(z), y);
+    Ok(())
+}
