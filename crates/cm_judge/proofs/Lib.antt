@@ -1,2 +1,6 @@
 pub mod Accesses
 pub mod Covered
+pub mod Keeps
+pub mod Same
+pub mod Merges
+pub mod Notes

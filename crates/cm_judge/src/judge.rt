@@ -1,98 +1,135 @@
-ghost use Rattle.std.specs.Prelude.{◌≡◌, ◌↔◌, ◌⊎◌, [], ◌∷◌, ◌++◌, List, ℕ, All, Any, Contains, IsTrue, IfOk, OnOk, OnErr};
+ghost use Rattle.std.specs.Prelude.{◌≡◌, ◌≢◌, ◌↔◌, [], ◌∷◌, ◌++◌, List, ℕ, ◌+◌, ◌*◌, ◌<◌, ◌≤◌, All, IfOk, OnOk, OnErr, vec_len, vec_capacity};
 ghost use Rattle.cm_mtrace.specs.Lines.{Covers, IsInRange};
 ghost use Rattle.cm_mtrace.specs.declared.item.Entry.{Entry};
-ghost use Rattle.cm_judge.specs.Conflicts.{AreConflictLines, IsConflictLine};
-ghost use Rattle.cm_judge.specs.Judge.{StandsFor};
+ghost use Rattle.cm_mtrace.specs.declared.item.Who.TheVariants.{Other};
+ghost use Rattle.cm_judge.specs.Conflicts.{AreConflictLines};
+ghost use Rattle.cm_judge.specs.Judge.{KeepWhat, SameButBlank, StandsFor};
+ghost use Rattle.cm_judge.specs.Summary.{IsBlank};
+ghost use Rattle.cm_judge.specs.declared.table.Record.{Record};
 
-use crate::line::lines_of;
-use crate::summary::LineSummary;
+use crate::grow::{grown, has_one_each};
+use crate::line::{Lines, lines_of};
+use crate::merge::{conflict_lines, merged};
+use crate::table::{Record, WINDOW, note};
 use cm_model::{List, NoMemory};
-use cm_mtrace::Entry;
+use cm_mtrace::{Entry, Who};
 use std::alloc::Global;
 use std::marker::Model;
 
-fn covers(e: &Entry, line: u64) -> bool
-    ensures { IsTrue result ↔ Covers e.now line }
-{
-    line % 64 == 0
-        && e.addr - e.addr % 64 <= line
-        && line.saturating_sub(e.addr) < u64::from(e.size)
-}
+// How many records spill before those of one line are put together.
+const SPILL: usize = 1024;
 
-fn is_conflict(entries: &[Entry], line: u64) -> bool
-    ensures { IsTrue result ↔ IsConflictLine entries.now line }
+// Lets the table grow where it holds as many lines as it should.
+fn make_room(
+    alloc: Global,
+    slots: &mut Vec<Record>,
+    held: usize,
+    limit: &mut usize,
+) -> Result<(), NoMemory>
+    ensures ok { OnOk result (SameButBlank slots.old.items slots.new.items) }
+    ensures err { OnErr result (slots.new.items ≡ slots.old.items) }
 {
-    let mut summary = LineSummary::new();
-    for e in entries {
-        if covers(e, line) {
-            summary.add(e);
-        }
+    if held < *limit {
+        return Ok(());
     }
-    summary.is_conflict()
-}
-
-// Adds a line if it is in conflict.
-fn add_line(entries: &[Entry], line: u64, to: &mut Vec<u64>) -> Result<(), NoMemory>
-    ensures { OnOk result ((other : ℕ) → Contains to.new.items other ↔ (Contains to.old.items other ⊎ ((other ≡ line) × IsConflictLine entries.now line))) }
-{
-    if is_conflict(entries, line) {
-        to.push(line)?;
+    match grown(alloc, slots.as_slice())? {
+        Some(larger) => {
+            *slots = larger;
+            *limit = slots.len().saturating_sub(WINDOW) / 2;
+        }
+        None => *limit = held.saturating_mul(2),
     }
     Ok(())
 }
 
-// Adds the lines of one entry that are in conflict.
-fn add_lines(entries: &[Entry], e: &Entry, to: &mut Vec<u64>) -> Result<(), NoMemory>
-    requires { IsInRange e.now }
-    ensures { OnOk result ((line : ℕ) → Contains to.new.items line ↔ (Contains to.old.items line ⊎ (Covers e.now line × IsConflictLine entries.now line))) }
+// Adds an access to what is kept of each of its lines.
+fn note_lines(
+    slots: &mut [Record],
+    spill: &mut Vec<Record>,
+    held: &mut usize,
+    lines: Lines,
+    e: &Entry,
+)
+    requires judged { e.now.who ≢ Other }
+    requires lines { (line : ℕ) → Covers e.now line ↔ ((k : ℕ) × (k < lines.count) × (line ≡ lines.first + 64 * k)) }
+    requires range { IsInRange e.now }
+    requires room { vec_len spill.old + lines.count ≤ vec_capacity spill.old }
+    ensures { (entries : List Entry) → StandsFor (slots.old ++ spill.old.items) entries → StandsFor (slots.new ++ spill.new.items) (entries ++ e.now ∷ []) }
 {
-    let lines = lines_of(e);
     for k in 0..lines.count {
         let line = lines.first + 64 * u64::from(k);
-        add_line(entries, line, to)?;
+        note(slots, spill, held, line, e);
     }
-    Ok(())
 }
 
-// Each line of each entry that is in conflict.
-fn all_lines(alloc: Global, entries: &[Entry]) -> Result<Vec<u64>, NoMemory>
-    requires { All IsInRange entries.now }
-    ensures { IfOk result (λ lines. (line : ℕ) → Contains lines.items line ↔ IsConflictLine entries.now line) }
+// Puts the records of one line together where many have spilled.
+fn trim(alloc: Global, spill: &mut Vec<Record>, limit: &mut usize)
+    ensures { KeepWhat spill.old.items spill.new.items }
 {
-    let mut lines = Vec::new(alloc);
-    for e in entries {
-        add_lines(entries, e, &mut lines)?;
+    if spill.len() < *limit {
+        return;
     }
-    Ok(lines)
+    if let Ok(records) = Vec::from_slice(alloc, spill.as_slice()) {
+        if let Ok(fewer) = merged(alloc, records) {
+            *spill = fewer;
+        }
+    }
+    *limit = spill.len().saturating_mul(2).saturating_add(SPILL);
 }
 
-fn conflict_lines(alloc: Global, entries: &[Entry]) -> Result<Vec<u64>, NoMemory>
-    requires { All IsInRange entries.now }
-    ensures { IfOk result (λ lines. AreConflictLines entries.now lines.items) }
+// The lines in conflict. Records are put together only where a line may have several.
+fn conflicts(alloc: Global, slots: &[Record], spill: &[Record]) -> Result<Vec<u64>, NoMemory>
+    ensures { IfOk result (λ lines. (entries : List Entry) → StandsFor (slots.now ++ spill.now) entries → AreConflictLines entries lines.items) }
 {
-    let mut lines = all_lines(alloc, entries)?;
-    lines.sort_unstable();
-    lines.dedup();
-    Ok(lines)
+    if spill.is_empty() && has_one_each(slots) {
+        return conflict_lines(alloc, slots);
+    }
+    let mut records = Vec::from_slice(alloc, slots)?;
+    records.extend_from_slice(spill)?;
+    let records = merged(alloc, records)?;
+    conflict_lines(alloc, records.as_slice())
 }
 
-/// Collects the entries of a section.
+fn blank_all(slots: &mut [Record])
+    ensures { All (λ (r : Record). IsBlank r.summary) slots.new }
+{
+    for slot in slots.iter_mut() {
+        *slot = Record::blank();
+    }
+}
+
+// Empties the table, and gives it back where it is much larger than what it held.
+fn clear(alloc: Global, slots: &mut Vec<Record>, held: usize)
+    ensures { All (λ (r : Record). IsBlank r.summary) slots.new.items }
+{
+    if slots.len() / 16 > held.saturating_add(64) {
+        *slots = Vec::new(alloc);
+    } else {
+        blank_all(slots.as_mut_slice());
+    }
+}
+
+/// Collects the accesses of a section.
 #[derive(Debug, Drop)]
 pub struct Judge {
     alloc: Global,
-    entries: Vec<Entry>,
+    // A hash table of lines.
+    slots: Vec<Record>,
+    // Accesses to lines that found no slot.
+    spill: Vec<Record>,
+    // How many slots have a line, and how many may before the table grows.
+    held: usize,
+    limit: usize,
+    spill_limit: usize,
 }
 
 impl Model for Judge {
-    ghost use Rattle.std.specs.Prelude.{All, List};
-    ghost use Rattle.cm_mtrace.specs.Lines.{IsInRange};
-    ghost use Rattle.cm_mtrace.specs.declared.item.Entry.{Entry};
+    ghost use Rattle.std.specs.Prelude.{List, ◌++◌};
+    ghost use Rattle.cm_judge.specs.declared.table.Record.{Record};
 
-    ghost Value = { List Entry };
+    ghost Value = { List Record };
 
-    ghost view = { λ j. j.entries.items };
-
-    ghost invariant = { λ j. All IsInRange j.entries.items };
+    ghost view = { λ j. j.slots.items ++ j.spill.items };
 }
 
 impl Judge {
@@ -102,7 +139,11 @@ impl Judge {
     {
         Judge {
             alloc,
-            entries: Vec::new(alloc),
+            slots: Vec::new(alloc),
+            spill: Vec::new(alloc),
+            held: 0,
+            limit: 0,
+            spill_limit: SPILL,
         }
     }
 
@@ -112,7 +153,20 @@ impl Judge {
         ensures ok { OnOk result ((entries : List Entry) → StandsFor self.old entries → StandsFor self.new (entries ++ e.now ∷ [])) }
         ensures err { OnErr result (self.new ≡ self.old) }
     {
-        self.entries.push(*e)?;
+        if e.who == Who::Other {
+            return Ok(());
+        }
+        let lines = lines_of(e);
+        self.spill.reserve(usize::from(lines.count))?;
+        make_room(self.alloc, &mut self.slots, self.held, &mut self.limit)?;
+        note_lines(
+            self.slots.as_mut_slice(),
+            &mut self.spill,
+            &mut self.held,
+            lines,
+            e,
+        );
+        trim(self.alloc, &mut self.spill, &mut self.spill_limit);
         Ok(())
     }
 
@@ -122,8 +176,10 @@ impl Judge {
         ensures emptied { OnOk result (StandsFor self.new []) }
         ensures err { OnErr result (self.new ≡ self.old) }
     {
-        let lines = conflict_lines(self.alloc, self.entries.as_slice())?;
-        self.entries = Vec::new(self.alloc);
+        let lines = conflicts(self.alloc, self.slots.as_slice(), self.spill.as_slice())?;
+        clear(self.alloc, &mut self.slots, self.held);
+        self.spill.clear();
+        self.held = 0;
         Ok(List::from_vec(lines))
     }
 }

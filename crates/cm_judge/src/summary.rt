@@ -1,88 +1,160 @@
-ghost use Rattle.std.specs.Prelude.{◌≡◌, ◌↔◌, [], ◌∷◌, ◌++◌, List, ℕ, IsTrue};
-ghost use Rattle.cm_mtrace.specs.Lines.{Covers};
-ghost use Rattle.cm_mtrace.specs.declared.item.Entry.{Entry};
+ghost use Rattle.std.specs.Prelude.{◌≡◌, ◌≢◌, List, ◌↔◌, ◌⊎◌, ◌<◌, ◌≤◌, ℕ, IsTrue, false, min, max};
+ghost use Rattle.cm_mtrace.specs.declared.item.Who.{Who};
+ghost use Rattle.cm_mtrace.specs.declared.item.Who.TheVariants.{A, B, Other};
+ghost use Rattle.cm_mtrace.specs.declared.item.Kind.{Kind};
 ghost use Rattle.cm_judge.specs.Conflicts.{IsConflictLine};
-ghost use Rattle.cm_judge.specs.Summary.{with_core, Differ, IsSummaryOf};
+ghost use Rattle.cm_mtrace.specs.declared.item.Entry.{Entry};
+ghost use Rattle.cm_judge.specs.Summary.{cores_of, no_cores, place, union_of, with_core, Differ, IsBlank, IsSummaryOf};
 
 use cm_mtrace::{Entry, Kind, Who};
 
-/// The cores that made some accesses, as far as a conflict asks for them.
+/// The least and the greatest of some cores: all that a conflict asks of them. Where there are
+/// none, the least is above the greatest.
 #[derive(Clone, Copy, Debug, PartialEq, Eq)]
-pub(crate) enum Cores {
-    Nobody,
-    One(u16),
-    Several,
+pub(crate) struct Cores {
+    least: u16,
+    greatest: u16,
 }
 
 impl Cores {
-    fn with(self, core: u16) -> Cores
-        ensures { result ≡ with_core self core }
+    fn none() -> Cores
+        ensures { result ≡ no_cores }
     {
-        match self {
-            Cores::Nobody => Cores::One(core),
-            Cores::One(first) => {
-                if first == core {
-                    Cores::One(first)
-                } else {
-                    Cores::Several
-                }
-            }
-            Cores::Several => Cores::Several,
+        Cores {
+            least: u16::MAX,
+            greatest: 0,
         }
     }
 
-    // Some core of the one is not some core of the other.
+    fn is_empty(self) -> bool
+        ensures { IsTrue result ↔ (self.greatest < self.least) }
+    {
+        self.greatest < self.least
+    }
+
+    // Some core of the one is another than some core of the other.
     fn differ(self, other: Cores) -> bool
         ensures { IsTrue result ↔ Differ self other }
     {
-        match (self, other) {
-            (Cores::Nobody, _) => false,
-            (_, Cores::Nobody) => false,
-            (Cores::One(x), Cores::One(y)) => x != y,
-            (_, _) => true,
+        !self.is_empty()
+            && !other.is_empty()
+            && (self.least != other.greatest || self.greatest != other.least)
+    }
+
+    fn union(self, other: Cores) -> Cores
+        ensures { result ≡ union_of self other }
+    {
+        if self.is_empty() {
+            other
+        } else if other.is_empty() {
+            self
+        } else {
+            Cores {
+                least: self.least.min(other.least),
+                greatest: self.greatest.max(other.greatest),
+            }
+        }
+    }
+
+    fn with(self, core: u16) -> Cores
+        ensures { result ≡ with_core self core }
+    {
+        Cores {
+            least: self.least.min(core),
+            greatest: self.greatest.max(core),
         }
     }
 }
 
-/// What is kept of the accesses to a line: for each mark and kind, the cores that made them.
+fn place_of(who: Who, kind: Kind) -> usize
+    ensures { result ≡ place who kind }
+{
+    match (who, kind) {
+        (Who::A, Kind::Read) => 0,
+        (Who::A, Kind::Write) => 1,
+        (Who::B, Kind::Read) => 2,
+        (Who::B, Kind::Write) => 3,
+        (Who::Other, _) => 4,
+    }
+}
+
+/// What is kept of the accesses to a line: the cores of call a's reads, its writes, call b's reads
+/// and its writes.
 #[derive(Clone, Copy, Debug, PartialEq, Eq)]
 pub(crate) struct LineSummary {
-    a_reads: Cores,
-    a_writes: Cores,
-    b_reads: Cores,
-    b_writes: Cores,
+    cores: [Cores; 4],
 }
 
 impl LineSummary {
-    pub(crate) fn new() -> LineSummary
-        ensures { (line : ℕ) → IsSummaryOf result [] line }
+    /// What is kept where there was no access.
+    pub(crate) fn blank() -> LineSummary
+        ensures cores { (who : Who) (kind : Kind) → cores_of result who kind ≡ no_cores }
+        ensures blank { IsBlank result }
     {
         LineSummary {
-            a_reads: Cores::Nobody,
-            a_writes: Cores::Nobody,
-            b_reads: Cores::Nobody,
-            b_writes: Cores::Nobody,
+            cores: [Cores::none(); 4],
         }
+    }
+
+    pub(crate) fn is_blank(&self) -> bool
+        ensures { IsTrue result ↔ IsBlank self.now }
+    {
+        self.cores.iter().all(|cores| *cores == Cores::none())
+    }
+
+    fn cores(&self, who: Who, kind: Kind) -> Cores
+        requires { who ≢ Other }
+        ensures { result ≡ cores_of self.now who kind }
+    {
+        self.cores[place_of(who, kind)]
+    }
+
+    fn union_at(&self, other: &LineSummary, who: Who, kind: Kind) -> Cores
+        requires { who ≢ Other }
+        ensures { result ≡ union_of (cores_of self.now who kind) (cores_of other.now who kind) }
+    {
+        self.cores(who, kind).union(other.cores(who, kind))
+    }
+
+    /// What is kept of the accesses to a line, where each of the two was kept of some.
+    pub(crate) fn union(&self, other: &LineSummary) -> LineSummary
+        ensures { (who : Who) (kind : Kind) → who ≢ Other → cores_of result who kind ≡ union_of (cores_of self.now who kind) (cores_of other.now who kind) }
+    {
+        LineSummary {
+            cores: [
+                self.union_at(other, Who::A, Kind::Read),
+                self.union_at(other, Who::A, Kind::Write),
+                self.union_at(other, Who::B, Kind::Read),
+                self.union_at(other, Who::B, Kind::Write),
+            ],
+        }
+    }
+
+    // An access of this kind by call a and one of the other by call b were made by different cores.
+    fn differ(&self, kind: Kind, other: Kind) -> bool
+        ensures { IsTrue result ↔ Differ (cores_of self.now A kind) (cores_of self.now B other) }
+    {
+        self.cores(Who::A, kind).differ(self.cores(Who::B, other))
+    }
+
+    /// A write of one call and an access of the other were made by different cores.
+    pub(crate) fn is_conflict(&self) -> bool
+        ensures blank { IsBlank self.now → result ≡ false }
+        ensures conflict { (entries : List Entry) (line : ℕ) → IsSummaryOf self.now entries line → (IsTrue result ↔ IsConflictLine entries line) }
+    {
+        self.differ(Kind::Write, Kind::Write)
+            || self.differ(Kind::Write, Kind::Read)
+            || self.differ(Kind::Read, Kind::Write)
     }
 
     /// Adds an access to the line.
     pub(crate) fn add(&mut self, e: &Entry)
-        ensures { (entries : List Entry) (line : ℕ) → IsSummaryOf self.old entries line → Covers e.now line → IsSummaryOf self.new (entries ++ e.now ∷ []) line }
+        requires { e.now.who ≢ Other }
+        ensures own { cores_of self.new e.now.who e.now.kind ≡ with_core (cores_of self.old e.now.who e.now.kind) e.now.core }
+        ensures others { (who : Who) (kind : Kind) → (who ≢ e.now.who) ⊎ (kind ≢ e.now.kind) → cores_of self.new who kind ≡ cores_of self.old who kind }
+        ensures small { e.now.core ≤ 65535 }
     {
-        match (e.who, e.kind) {
-            (Who::A, Kind::Read) => self.a_reads = self.a_reads.with(e.core),
-            (Who::A, Kind::Write) => self.a_writes = self.a_writes.with(e.core),
-            (Who::B, Kind::Read) => self.b_reads = self.b_reads.with(e.core),
-            (Who::B, Kind::Write) => self.b_writes = self.b_writes.with(e.core),
-            (Who::Other, _) => {}
-        }
-    }
-
-    pub(crate) fn is_conflict(&self) -> bool
-        ensures { (entries : List Entry) (line : ℕ) → IsSummaryOf self.now entries line → (IsTrue result ↔ IsConflictLine entries line) }
-    {
-        self.a_writes.differ(self.b_writes)
-            || self.a_writes.differ(self.b_reads)
-            || self.a_reads.differ(self.b_writes)
+        let place = place_of(e.who, e.kind);
+        self.cores[place] = self.cores[place].with(e.core);
     }
 }

@@ -1,4 +1,6 @@
+pub mod Causes
 pub mod Files
+pub mod Judgements
 pub mod Parts
 pub mod Runs
 pub mod SectionSteps

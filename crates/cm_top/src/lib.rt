@@ -1,6 +1,7 @@
 //! The top call of the analyser.
 #![tactic(auto)]
 
+mod command;
 mod emit;
 mod fetch;
 mod output;
@@ -9,5 +10,8 @@ mod sections;
 mod status;
 mod stop;
 mod tell;
+mod top;
+mod words;
 
 pub use status::Status;
+pub use top::commuter;

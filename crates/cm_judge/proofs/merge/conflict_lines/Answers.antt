@@ -1,0 +1,25 @@
+use Rattle.std.proofs.Common.{List, eqb, sym, subst, ◌∙◌}
+use Rattle.std.proofs.lemmas.Bool.{false≢true, iff_false}
+use Rattle.std.proofs.lemmas.List.{take_all}
+use Rattle.std.proofs.lemmas.List.Filters.{dedup_is}
+use Rattle.cm_judge.specs.declared.table.Record.{Record}
+use Rattle.cm_judge.proofs.Merges.{all_found, AreFound, found_more_at, found_same_at}
+use Rattle.cm_judge.proofs.merge.conflict_lines.Goals as goal
+use Rattle.cm_judge.proofs.merge.conflict_lines.Goals.{then-is_conflict+in_ok-push, else-is_conflict}
+
+pub loop-record-preserved : goal.loop-record-preserved
+loop-record-preserved c =
+    let records = c.args.records.now in
+    let i = c.loop-record.record-index in
+    let is = c.is_conflict.ensures in
+    elim c.if-is_conflict.branch [
+      | then-is_conflict+in_ok-push w ↦ rw (w.lines-is, w.in_ok-push.ensures.items) (found_more_at records c.loop-record.lines.items i _ c.loop-record-test.true c.requires (λ blank. false≢true (sym (is.blank blank) ∙ w.if-is_conflict.true)) (λ entries summary. (is.conflict entries _ summary).0 w.if-is_conflict.true) c.loop-record.invariant)
+      | else-is_conflict w ↦ rw w.lines-is (found_same_at records c.loop-record.lines.items i _ c.loop-record-test.true c.requires (λ entries summary. iff_false (is.conflict entries _ summary) w.if-is_conflict.false) c.loop-record.invariant)
+    ]
+
+pub returns : goal.returns
+returns c =
+    let records = c.args.records.now in
+    let found = c.loop-record.lines.items in
+    let sorted = c.sort_unstable.new.self.items in
+    all_found records found sorted c.dedup.new.self.items c.sort_unstable.ensures.permutation c.sort_unstable.ensures.sorted (dedup_is eqb sorted c.dedup.new.self.items c.dedup.ensures.filtered) (subst (λ (l : List Record). AreFound records l found) (take_all c.loop-record.record-index records c.loop-record-test.false) c.loop-record.invariant)

@@ -1,0 +1,55 @@
+ghost use Rattle.std.specs.Prelude.{IfOk, IfSome};
+ghost use Rattle.cm_judge.specs.Judge.{HasOneEach, SameButBlank};
+ghost use Rattle.std.specs.Prelude.{IsTrue};
+
+use crate::table::{Place, Record, WINDOW, place_for};
+use cm_model::NoMemory;
+use std::alloc::Global;
+
+// The fewest slots that a line may have its first in.
+const LEAST: usize = 64;
+
+// How many slots a table has that is twice as large as one of so many.
+fn doubled(slots: usize) -> usize {
+    let firsts = slots.saturating_sub(WINDOW - 1);
+    firsts
+        .saturating_mul(2)
+        .max(LEAST)
+        .saturating_add(WINDOW - 1)
+}
+
+/// A table of twice the size with the same records, or `None` where one of them has no place in it.
+pub(crate) fn grown(alloc: Global, slots: &[Record]) -> Result<Option<Vec<Record>>, NoMemory>
+    ensures { IfOk result (λ table. IfSome table (λ new. SameButBlank slots.now new.items)) }
+{
+    let mut new = vec![in alloc; Record::blank(); doubled(slots.len())]?;
+    for slot in slots {
+        if !slot.summary.is_blank() {
+            match place_for(new.as_slice(), slot.line) {
+                Place::Free(k) => new[k] = *slot,
+                Place::Held(_) | Place::Nowhere => return Ok(None),
+            }
+        }
+    }
+    Ok(Some(new))
+}
+
+/// Tells that no two slots have the same line.
+pub(crate) fn has_one_each(slots: &[Record]) -> bool
+    ensures { IsTrue result → HasOneEach slots.now }
+{
+    for k in 0..slots.len() {
+        let slot = &slots[k];
+        if !slot.summary.is_blank() {
+            match place_for(slots, slot.line) {
+                Place::Held(held) => {
+                    if held != k {
+                        return false;
+                    }
+                }
+                Place::Free(_) | Place::Nowhere => return false,
+            }
+        }
+    }
+    true
+}

@@ -1,0 +1,58 @@
+ghost use Rattle.std.specs.Prelude.{◌≡◌, ◌++◌, ◌∷◌, [], List, ℕ, IfOk};
+ghost use Rattle.cm_judge.specs.declared.table.Record.{Record};
+ghost use Rattle.cm_mtrace.specs.declared.item.Entry.{Entry};
+ghost use Rattle.std.specs.List.Sorted.{IsNonDecreasingBy};
+ghost use Rattle.cm_judge.specs.Conflicts.{AreConflictLines};
+ghost use Rattle.cm_judge.specs.Judge.{HasOneEach, KeepWhat, StandsFor};
+
+use crate::table::Record;
+use cm_model::NoMemory;
+use std::alloc::Global;
+
+// The records in the order of their lines, those of one line put together.
+fn joined(alloc: Global, sorted: &[Record]) -> Result<Vec<Record>, NoMemory>
+    requires { IsNonDecreasingBy (λ (r : Record). r.line) sorted.now }
+    ensures keep { IfOk result (λ joined. KeepWhat sorted.now joined.items) }
+    ensures one_each { IfOk result (λ joined. HasOneEach joined.items) }
+{
+    let mut all = Vec::new(alloc);
+    let Some((first, others)) = sorted.split_first() else {
+        return Ok(all);
+    };
+    let mut last = *first;
+    for record in others {
+        if record.line == last.line {
+            last.summary = last.summary.union(&record.summary);
+        } else {
+            all.push(last)?;
+            last = *record;
+        }
+    }
+    all.push(last)?;
+    Ok(all)
+}
+
+/// The records, those of one line put together.
+pub(crate) fn merged(alloc: Global, mut records: Vec<Record>) -> Result<Vec<Record>, NoMemory>
+    ensures keep { IfOk result (λ merged. KeepWhat records.items merged.items) }
+    ensures one_each { IfOk result (λ merged. HasOneEach merged.items) }
+{
+    records.sort_unstable_by_key(|record| record.line);
+    joined(alloc, records.as_slice())
+}
+
+/// The lines in conflict, ascending, each once.
+pub(crate) fn conflict_lines(alloc: Global, records: &[Record]) -> Result<Vec<u64>, NoMemory>
+    requires { HasOneEach records.now }
+    ensures { IfOk result (λ lines. (entries : List Entry) → StandsFor records.now entries → AreConflictLines entries lines.items) }
+{
+    let mut lines = Vec::new(alloc);
+    for record in records {
+        if record.summary.is_conflict() {
+            lines.push(record.line)?;
+        }
+    }
+    lines.sort_unstable();
+    lines.dedup();
+    Ok(lines)
+}
