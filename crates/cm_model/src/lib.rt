@@ -6,7 +6,6 @@ mod name;
 
 pub use memory::NoMemory;
 pub use name::Name;
-
 use sqlite_items::Items;
 
 /// A sequence that contracts see as the list of its items.

@@ -15,3 +15,6 @@ mod words;
 
 pub use status::Status;
 pub use top::commuter;
+
+#[cfg(test)]
+mod tests;

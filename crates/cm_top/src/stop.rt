@@ -4,9 +4,7 @@ pub enum Stop {
     ReadFault,
     TooLong,
     /// The first bad line, counted from 1.
-    Refused {
-        line: u64,
-    },
+    Refused { line: u64 },
     WriteFault,
     Memory,
 }

@@ -24,12 +24,7 @@ fn put_both<O: Sink>(out: &mut O, first: &[u8], second: &[u8]) -> Result<(), Fai
 }
 
 // Puts three pieces.
-fn put_three<O: Sink>(
-    out: &mut O,
-    first: &[u8],
-    second: &[u8],
-    third: &[u8],
-) -> Result<(), Failed>
+fn put_three<O: Sink>(out: &mut O, first: &[u8], second: &[u8], third: &[u8]) -> Result<(), Failed>
     ensures taken { PutTakes (O.written out.old) (O.written out.new) result (first.now ++ second.now ++ third.now) }
     ensures later { O.faults out.old ≤ O.faults out.new }
     ensures cause { OnErr result (Rose (O.faults out.old) (O.faults out.new)) }
