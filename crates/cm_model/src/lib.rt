@@ -7,9 +7,8 @@ mod variable;
 
 pub use memory::NoMemory;
 pub use name::Name;
-pub use variable::{IntVar, SortVar};
-
 use sqlite_items::Items;
+pub use variable::{IntVar, SortVar};
 
 /// A sequence that contracts see as the list of its items.
 pub type List<T> = Items<T>;
