@@ -9,10 +9,11 @@ pub fn digit(byte: u8, base: u64) -> Option<u64>
     requires high { base ≤ 16 }
     ensures { MatchOption result (¬ IsDigit base byte) (λ d. IsDigit base byte × (d ≡ digit_value byte)) }
 {
-    let value = match byte {
-        b'0'..=b'9' => byte - b'0',
-        b'a'..=b'f' => byte - b'a' + 10,
-        _ => return None,
+    // Bytes of neither range get values from 16 on, so that no branch tells the ranges apart.
+    let value = if byte <= b'9' {
+        byte.wrapping_sub(b'0')
+    } else {
+        byte.wrapping_sub(b'a').saturating_add(10)
     };
     if u64::from(value) < base {
         Some(u64::from(value))
