@@ -3,7 +3,8 @@ ghost use Rattle.cm_mtrace.specs.Lines.{Covers, IsInRange};
 ghost use Rattle.cm_mtrace.specs.declared.item.Entry.{Entry};
 ghost use Rattle.cm_mtrace.specs.declared.item.Who.TheVariants.{Other};
 ghost use Rattle.cm_judge.specs.Conflicts.{AreConflictLines};
-ghost use Rattle.cm_judge.specs.Judge.{KeepWhat, SameRecords, StandsFor};
+ghost use Rattle.cm_judge.specs.Judge.{StandsFor};
+ghost use Rattle.cm_judge.specs.Table.{KeepWhat, SameRecords};
 ghost use Rattle.cm_judge.specs.declared.table.Record.{Record};
 
 use crate::grow::{grown, has_one_each};
