@@ -17,7 +17,8 @@ use Rattle.cm_judge.specs.declared.summary.Cores.{Cores}
 use Rattle.cm_judge.specs.declared.summary.LineSummary.{LineSummary}
 use Rattle.cm_judge.specs.declared.table.Record.{Record}
 use Rattle.cm_judge.specs.Conflicts.{AreConflictLines, ConflictAt, IsConflictLine}
-use Rattle.cm_judge.specs.Judge.{HasOneEach, KeepLine, KeepWhat, SameRecords, StandsFor}
+use Rattle.cm_judge.specs.Judge.{KeepLine, StandsFor}
+use Rattle.cm_judge.specs.Table.{HasOneEach, KeepWhat, SameRecords}
 use Rattle.cm_judge.specs.Summary.{AreBoundsOf, cores_of, IsSummaryOf, IsWithin, Touches, union_of}
 use Rattle.cm_judge.proofs.Accesses.{a≢other}
 use Rattle.cm_judge.proofs.Keeps.{any_of, bounds_some, max_cases, min_cases, Replaces}

@@ -5,7 +5,7 @@ use Rattle.std.proofs.Math.ListN.{set, length-set}
 use Rattle.std.proofs.lemmas.List.{take_more, get_or-set_same}
 use Rattle.std.proofs.lemmas.List.Elements.{Contains-append_left, Contains-push, Contains-push_cases}
 use Rattle.cm_judge.specs.declared.table.Record.{Record}
-use Rattle.cm_judge.specs.Judge.{SameRecords}
+use Rattle.cm_judge.specs.Table.{SameRecords}
 use Rattle.cm_judge.proofs.Keeps.{set_from, set_kept}
 
 one_more : (xs : List Record) (i : ℕ) (d q : Record) → i < length xs → Contains (take (i + 1) xs) q → Contains (take i xs) q ⊎ (q ≡ get_or xs i d)

@@ -41,11 +41,11 @@ place Other _ = 4
 abbrev pub cores_of : LineSummary → Who → Kind → Cores
 cores_of s who kind = slice_index_or s.cores (place who kind) no_cores
 
--- the cores are the bounds of those that are so: the least and the greatest are so, or there is none
+-- the least and the greatest are cores of this sort, or there is none
 abbrev pub AreBoundsOf : Cores → (ℕ → Type 0) → Type 0
 AreBoundsOf c Is = (Is c.least × Is c.greatest) ⊎ (c ≡ no_cores)
 
--- the bounds are those of the cores that are so, and each that is so is within them
+-- the least and the greatest of the cores of this sort
 pub record AreTheCores (c : Cores) (Is : ℕ → Type 0) : Type 0 where
   pub bounds : AreBoundsOf c Is
   pub within : (core : ℕ) → Is core → IsWithin c core

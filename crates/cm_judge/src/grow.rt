@@ -1,5 +1,5 @@
 ghost use Rattle.std.specs.Prelude.{IfOk, IfSome};
-ghost use Rattle.cm_judge.specs.Judge.{HasOneEach, SameRecords};
+ghost use Rattle.cm_judge.specs.Table.{HasOneEach, SameRecords};
 ghost use Rattle.std.specs.Prelude.{IsTrue};
 
 use crate::table::{Place, Record, WINDOW, place_for};

@@ -3,13 +3,14 @@ ghost use Rattle.cm_mtrace.specs.Lines.{Covers, IsInRange};
 ghost use Rattle.cm_mtrace.specs.declared.item.Entry.{Entry};
 ghost use Rattle.cm_mtrace.specs.declared.item.Who.TheVariants.{Other};
 ghost use Rattle.cm_judge.specs.Conflicts.{AreConflictLines};
-ghost use Rattle.cm_judge.specs.Judge.{KeepWhat, SameRecords, StandsFor};
+ghost use Rattle.cm_judge.specs.Judge.{StandsFor};
+ghost use Rattle.cm_judge.specs.Table.{KeepWhat, SameRecords};
 ghost use Rattle.cm_judge.specs.declared.table.Record.{Record};
 
 use crate::grow::{grown, has_one_each};
 use crate::line::{Lines, lines_of};
 use crate::merge::{conflict_lines, merged};
-use crate::table::{Place, Record, WINDOW, note, place_for};
+use crate::table::{Place, Record, note, place_for};
 use cm_model::{List, NoMemory};
 use cm_mtrace::{Entry, Who};
 use std::alloc::Global;
@@ -34,7 +35,7 @@ fn make_room(
     match grown(alloc, slots.as_slice())? {
         Some(larger) => {
             *slots = larger;
-            *limit = slots.len().saturating_sub(WINDOW) / 2;
+            *limit = slots.len() / 2;
         }
         None => *limit = held.saturating_mul(2),
     }

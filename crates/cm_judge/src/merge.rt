@@ -3,7 +3,8 @@ ghost use Rattle.cm_judge.specs.declared.table.Record.{Record};
 ghost use Rattle.cm_mtrace.specs.declared.item.Entry.{Entry};
 ghost use Rattle.std.specs.List.Sorted.{IsNonDecreasingBy};
 ghost use Rattle.cm_judge.specs.Conflicts.{AreConflictLines};
-ghost use Rattle.cm_judge.specs.Judge.{HasOneEach, KeepWhat, StandsFor};
+ghost use Rattle.cm_judge.specs.Judge.{StandsFor};
+ghost use Rattle.cm_judge.specs.Table.{HasOneEach, KeepWhat};
 
 use crate::table::Record;
 use cm_model::NoMemory;

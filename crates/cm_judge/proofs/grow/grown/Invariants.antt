@@ -1,5 +1,5 @@
 use Rattle.std.proofs.Common.{take}
-use Rattle.cm_judge.specs.Judge.{SameRecords}
+use Rattle.cm_judge.specs.Table.{SameRecords}
 use Rattle.cm_judge.proofs.grow.grown.Given as goal
 
 abbrev pub invariant-loop-slot : goal.invariant-loop-slot

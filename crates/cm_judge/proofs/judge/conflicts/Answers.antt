@@ -2,7 +2,7 @@ use Rattle.std.proofs.Common.{List, [], ◌∷◌, ◌++◌, IfOk, Ok, Err, Resu
 use Rattle.std.proofs.lemmas.List.{append-nil}
 use Rattle.std.proofs.lemmas.Bool.{eqb-true}
 use Rattle.cm_judge.specs.declared.table.Record.{Record}
-use Rattle.cm_judge.specs.Judge.{HasOneEach}
+use Rattle.cm_judge.specs.Table.{HasOneEach}
 use Rattle.cm_judge.proofs.judge.conflicts.Goals as goal
 
 no_items : (xs : List Record) → length xs ≡ 0 → xs ≡ []
