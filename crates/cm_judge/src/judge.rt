@@ -120,11 +120,12 @@ fn free_all(slots: &mut [Record])
 }
 
 // Empties the table, and gives it back where it is much larger than what it held.
-fn clear(alloc: Global, slots: &mut Vec<Record>, held: usize)
+fn clear(alloc: Global, slots: &mut Vec<Record>, held: usize, limit: &mut usize)
     ensures { All (λ (r : Record). r.line % 64 ≢ 0) slots.new.items }
 {
     if slots.len() / 16 > held.saturating_add(64) {
         *slots = Vec::new(alloc);
+        *limit = 0;
     } else {
         free_all(slots.as_mut_slice());
     }
@@ -212,7 +213,7 @@ impl Judge {
         ensures err { OnErr result (self.new ≡ self.old) }
     {
         let lines = conflicts(self.alloc, self.slots.as_slice(), self.spill.as_slice())?;
-        clear(self.alloc, &mut self.slots, self.held);
+        clear(self.alloc, &mut self.slots, self.held, &mut self.limit);
         self.spill.clear();
         self.held = 0;
         Ok(List::from_vec(lines))
