@@ -3,15 +3,20 @@
 
 mod memory;
 mod name;
+mod place;
 mod variable;
 
 pub use memory::NoMemory;
 pub use name::Name;
+pub use place::Place;
 use sqlite_items::Items;
 pub use variable::{IntVar, SortVar};
 
 /// A sequence that contracts see as the list of its items.
 pub type List<T> = Items<T>;
+
+/// An owned value on the heap, for types that lead back to themselves.
+pub type Boxed<T> = sqlite_items::Boxed<T>;
 
 #[cfg(test)]
 mod tests;
