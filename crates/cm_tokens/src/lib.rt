@@ -1,0 +1,6 @@
+//! The tokens of a model's text.
+#![tactic(auto)]
+
+mod token;
+
+pub use token::{Placed, Token};
