@@ -8,8 +8,10 @@
 
 mod compare;
 mod copy;
+mod membership;
 mod value;
 
 pub use compare::same;
 pub use copy::copy_value;
+pub use membership::member;
 pub use value::{Swap, Value, Vals};
