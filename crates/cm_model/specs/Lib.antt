@@ -1,1 +1,9 @@
 pub mod Tables
+pub mod Types
+pub mod Kinds
+pub mod Weights
+pub mod Blocks
+pub mod Plain
+pub mod Names
+pub mod WellTyped
+pub mod TablesCode

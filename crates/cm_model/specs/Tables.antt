@@ -1,10 +1,10 @@
 -- What a model declares, each kind in order of declaration.
 use Rattle.std.specs.Prelude.{ℕ, List}
-use Rattle.cm_model.specs.declared.IntDecl.{IntDecl}
-use Rattle.cm_model.specs.declared.EnumDecl.{EnumDecl}
-use Rattle.cm_model.specs.declared.RecDecl.{RecDecl}
-use Rattle.cm_model.specs.declared.StateDecl.{StateDecl}
-use Rattle.cm_model.specs.declared.Call.{Call}
+use Rattle.cm_model.specs.declared.ty.IntDecl.{IntDecl}
+use Rattle.cm_model.specs.declared.ty.EnumDecl.{EnumDecl}
+use Rattle.cm_model.specs.declared.ty.RecDecl.{RecDecl}
+use Rattle.cm_model.specs.declared.body.StateDecl.{StateDecl}
+use Rattle.cm_model.specs.declared.body.Call.{Call}
 
 pub record Tables : Type 0 where
   pub sorts : List (List ℕ)
@@ -14,3 +14,6 @@ pub record Tables : Type 0 where
   pub states : List StateDecl
   pub funs : List Call
   pub calls : List Call
+
+abbrev pub tables : List (List ℕ) → List IntDecl → List EnumDecl → List RecDecl → List StateDecl → List Call → List Call → Tables
+tables names is es rs ss fs cs = record { sorts = names; ints = is; enums = es; records = rs; states = ss; funs = fs; calls = cs }

@@ -3,6 +3,7 @@
 
 mod body;
 mod memory;
+mod model;
 mod name;
 mod pair;
 mod place;
@@ -11,6 +12,7 @@ mod variable;
 
 pub use body::{Call, Expr, Op, SetField, StateDecl, Stmt};
 pub use memory::NoMemory;
+pub use model::Model;
 pub use name::Name;
 pub use pair::{Over, Pair};
 pub use place::Place;
