@@ -38,7 +38,6 @@ fn has_fields(model: &Model, parts: &[Value], rec: u16) -> bool
 }
 
 /// Whether there is one value for each field.
-#[tactic(auto, using(crate::proofs::Members::uneven))]
 #[cycle(member)]
 fn are_members(model: &Model, parts: &[Value], fields: &[Part]) -> bool
     ensures exact { result ≡ are_members (map (member_of model.now) parts.now) (map (λ p. p.ty) fields.now) }
