@@ -4,6 +4,7 @@ use Rattle.std.proofs.lemmas.List.{append-nil}
 use Rattle.cm_model.specs.Types.{record_values}
 use Rattle.cm_model.specs.declared.ty.RecDecl.{RecDecl}
 use Rattle.cm_model.specs.declared.ty.IntDecl.{IntDecl}
+use Rattle.cm_model.specs.declared.ty.Part.{Part}
 use Rattle.cm_value.specs.declared.value.Value.{Value}
 use Rattle.cm_value.specs.declared.value.Value.TheVariants as value
 use Rattle.cm_value.specs.Least.{least_in, least_record, least_records, or_empty}
@@ -51,10 +52,13 @@ slice_get_at (x ∷ xs) zero d lt = refl
 slice_get_at (x ∷ xs) (suc i) d lt = slice_get_at xs i d (omega arith)
 
 -- a record's least value has the least values of its fields, whose records are earlier ones
-pub record_at : (ints : List IntDecl) (rs : List RecDecl) (i : ℕ) (d : RecDecl) → i < length rs
-    → or_empty (slice_get (least_records ints rs) i) ≡ value.Rec (map (λ p. least_in ints (least_records ints (take i rs)) p.ty) (get_or rs i d).fields)
+pub record_at : (ints : List IntDecl) (rs : List RecDecl) (i k : ℕ) (d : RecDecl) (fields : List Part) (parts : List Value) → i < length rs → k ≡ i
+    → fields ≡ (get_or rs k d).fields → parts ≡ map (λ p. least_in ints (least_records ints (take k rs)) p.ty) fields
+    → value.Rec parts ≡ or_empty (slice_get (least_records ints rs) i)
 unfolding least_records
-record_at ints rs i d lt = ap or_empty (value_at (least_record ints) rs i (get_or rs i d) (slice_get_at rs i d lt))
+record_at ints rs i k d fields parts lt same are made =
+    let at = value_at (least_record ints) rs k (get_or rs k d) (slice_get_at rs k d (omega arith)) in
+    rw (made, are, ← same) (sym (ap or_empty at))
 
 pub no_record : (ints : List IntDecl) (rs : List RecDecl) (i : ℕ) → length rs ≤ i → or_empty (slice_get (least_records ints rs) i) ≡ value.Rec []
 unfolding least_records

@@ -41,7 +41,7 @@ fn least_in(
 }
 
 /// The least value of a record, by its number.
-#[tactic(auto, using(crate::proofs::LeastRecords::record_at, crate::proofs::LeastRecords::no_record))]
+#[tactic(auto, using(crate::proofs::LeastRecords::no_record))]
 #[cycle(least)]
 fn least_record(
     alloc: Global,
