@@ -7,3 +7,4 @@ pub mod Plain
 pub mod Names
 pub mod WellTyped
 pub mod TablesCode
+pub mod Pairs

@@ -1,6 +1,7 @@
-ghost use Rattle.std.specs.Prelude.{◌≡◌, ℕ, ◌*◌, ◌+◌, ◌/◌, ◌<◌, ◌≤◌, length};
+ghost use Rattle.std.specs.Prelude.{◌≡◌, ℕ, ◌*◌, ◌+◌, ◌/◌, ◌<◌, ◌≤◌, length, slice_get, Some};
 ghost use Rattle.cm_model.specs.Tables.{Tables, tables};
 ghost use Rattle.cm_model.specs.WellTyped.{IsWellTyped};
+ghost use Rattle.cm_model.specs.Pairs.{pairs_of};
 
 use crate::{Call, EnumDecl, IntDecl, List, Name, Pair, RecDecl, StateDecl};
 
@@ -110,5 +111,35 @@ impl Model {
     {
         let n = self.calls.len() as u32;
         n * (n + 1) / 2
+    }
+
+    /// The pair with this number, from 0, in the order of the first call and then of the second.
+    pub fn pair_at(&self, k: u32) -> Pair
+        requires below { k < length self.now.calls * (length self.now.calls + 1) / 2 }
+        ensures pair { slice_get (pairs_of (length self.now.calls)) k ≡ Some (result.a, result.b) }
+        ensures order { result.a ≤ result.b }
+        ensures calls { result.b < length self.now.calls }
+    {
+        pair_at(self.calls.len() as u16, k)
+    }
+}
+
+// The pair with this number of so many calls.
+fn pair_at(calls: u16, k: u32) -> Pair
+    requires few { calls ≤ 64 }
+    requires below { k < calls * (calls + 1) / 2 }
+    ensures pair { slice_get (pairs_of calls) k ≡ Some (result.a, result.b) }
+    ensures order { result.a ≤ result.b }
+    ensures calls { result.b < calls }
+{
+    let mut a: u16 = 0;
+    let mut left = k;
+    'rows: while left >= u32::from(calls - a) {
+        left -= u32::from(calls - a);
+        a += 1;
+    }
+    Pair {
+        a,
+        b: a + left as u16,
     }
 }

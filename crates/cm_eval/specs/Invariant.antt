@@ -1,0 +1,30 @@
+-- When a cell's invariant is true of a value, and when a state is sound.
+use Rattle.std.specs.Prelude.{◌≡◌, ℕ, Bool, true, false, List, slice_get, Option, Some, None, IsTrue}
+use Rattle.cm_model.specs.Tables.{Tables}
+use Rattle.cm_model.specs.declared.ty.IntDecl.{IntDecl}
+use Rattle.cm_model.specs.declared.body.Expr.{Expr}
+use Rattle.cm_model.specs.declared.body.StateDecl.{StateDecl}
+use Rattle.cm_value.specs.declared.value.Value.{Value}
+use Rattle.cm_eval.specs.Script.{Replies, Blocks, Decides, Reads, Writes}
+use Rattle.cm_eval.specs.Evaluation.{Doing, invariant_of}
+use Rattle.cm_eval.specs.Run.{is_true}
+
+-- whether a script that touches no cell replies with true
+abbrev pub replies_true : Doing → Bool
+replies_true (Replies v) = is_true v
+replies_true Blocks = false
+replies_true (Decides d k) = replies_true (k d)
+replies_true (Reads c k) = false
+replies_true (Writes c v k) = false
+
+abbrev pub invariant_holds : List IntDecl → Option Expr → Value → Bool
+invariant_holds ints None v = true
+invariant_holds ints (Some e) v = replies_true (invariant_of ints e v)
+
+abbrev pub declared_invariant : Option StateDecl → Option Expr
+declared_invariant (Some d) = d.inv
+declared_invariant None = None
+
+-- the state has no invariant, or it is true of the value
+abbrev pub MeetsInvariant : Tables → ℕ → Value → Type 0
+MeetsInvariant t s v = IsTrue (invariant_holds t.ints (declared_invariant (slice_get t.states s)) v)

@@ -1,0 +1,11 @@
+//! The evaluator: what a call does with its arguments and a state, and what it logs.
+#![tactic(auto)]
+
+mod log;
+mod operand;
+mod outcome;
+mod state;
+
+pub use log::{CellName, Log};
+pub use outcome::{Args, Outcome};
+pub use state::Except;
