@@ -10,10 +10,12 @@ mod compare;
 mod copy;
 mod least_value;
 mod membership;
+mod relabelling;
 mod value;
 
 pub use compare::same;
 pub use copy::copy_value;
 pub use least_value::least;
 pub use membership::member;
+pub use relabelling::relabel;
 pub use value::{Swap, Value, Vals};
