@@ -2,3 +2,4 @@ pub mod Folds
 pub mod Same
 pub mod Places
 pub mod Limits
+pub mod Fields

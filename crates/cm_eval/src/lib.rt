@@ -1,6 +1,7 @@
 //! The evaluator: what a call does with its arguments and a state, and what it logs.
 #![tactic(auto)]
 
+mod compare;
 mod log;
 mod operand;
 mod outcome;
