@@ -7,3 +7,4 @@ pub mod LeastRecords
 pub mod Untyped
 pub mod Parts
 pub mod LeastMember
+pub mod Relabelled
