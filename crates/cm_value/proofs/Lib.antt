@@ -8,3 +8,4 @@ pub mod Untyped
 pub mod Parts
 pub mod LeastMember
 pub mod Relabelled
+pub mod Limited
