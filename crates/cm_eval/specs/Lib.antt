@@ -4,3 +4,6 @@ pub mod State
 pub mod Evaluation
 pub mod Run
 pub mod Invariant
+pub mod Limits
+pub mod StoreCode
+pub mod Places

@@ -1,7 +1,9 @@
 -- A state: a default for each declared state, and the cells whose values are others. And the cells that were
 -- touched.
-use Rattle.std.specs.Prelude.{ℕ, ◌==◌, ℤ, int_le, Bool, true, false, ◌&&◌, List, [], ◌∷◌, ◌++◌, slice_get, slice_set, Option, Some, None, if◌then◌else◌}
-use Rattle.std.specs.List.{list_all}
+use Rattle.std.specs.Prelude.{ℕ, ◌==◌, Bool, true, false, ◌&&◌, List, [], ◌∷◌, ◌++◌, map, slice_get, slice_set, Option, Some, None, if◌then◌else◌}
+use Rattle.std.specs.Ordering.{int_eq}
+use Rattle.cm_model.specs.Tables.{Tables}
+use Rattle.cm_value.specs.Least.{least_of}
 use Rattle.cm_value.specs.declared.value.Value.{Value, out-Value}
 use Rattle.cm_value.specs.declared.value.Value.TheOpen.{Value-F}
 use Rattle.cm_value.specs.declared.value.Value.TheFolds.{fold-Value}
@@ -11,9 +13,6 @@ use Rattle.cm_eval.specs.declared.state.Except.{Except}
 pub record Store : Type 0 where
   pub defaults : List Value
   pub exceptions : List Except
-
-abbrev pub int_eq : ℤ → ℤ → Bool
-int_eq m n = int_le m n && int_le n m
 
 abbrev pub all_same : List (Value → Bool) → List Value → Bool
 all_same [] [] = true
@@ -76,3 +75,10 @@ with_cell t c = record { cells = t.cells ++ c ∷ []; written = t.written ++ fal
 -- with a cell marked as written
 abbrev pub marked : Touched → ℕ → Touched
 marked t i = record t { written = slice_set t.written i true }
+
+abbrev pub store : List Value → List Except → Store
+store ds es = record { defaults = ds; exceptions = es }
+
+-- each state has the least value of its type as default, and no cell is another
+abbrev pub least_store : Tables → Store
+least_store t = store (map (λ d. least_of t d.value) t.states) []

@@ -8,4 +8,4 @@ mod state;
 
 pub use log::{CellName, Log};
 pub use outcome::{Args, Outcome};
-pub use state::Except;
+pub use state::{Except, State};

@@ -1,9 +1,149 @@
+ghost use Rattle.std.specs.Prelude.{◌≡◌, ◌<◌, ◌≤◌, ℕ, length, slice_get, Some, IfOk, OnOk, OnErr, IsTrue, option_copied, MatchOption, drop, List};
+ghost use Rattle.cm_value.specs.declared.value.Value.{Value};
+ghost use Rattle.cm_eval.specs.Evaluation.{named};
+ghost use Rattle.cm_eval.specs.State.{Store, look_up, put, least_store, same_cell, same_value, exception_of};
+ghost use Rattle.cm_eval.specs.Limits.{is_limited};
+ghost use Rattle.cm_eval.specs.Places.{Finds};
+
 use crate::CellName;
-use cm_value::Value;
+use cm_model::{List, Model, NoMemory, StateDecl};
+use cm_value::{Vals, Value, copy_value, least, same};
+use std::alloc::Global;
 
 /// A cell whose value is not its state's default.
 #[derive(Drop)]
 pub struct Except {
     pub cell: CellName,
     pub value: Value,
+}
+
+/// A state of a model: a default for each declared state, and exceptions. Contracts see it as a `Store`.
+#[derive(Drop)]
+pub struct State {
+    defaults: Vals,
+    exceptions: List<Except>,
+}
+
+impl std::marker::Model for State {
+    ghost use Rattle.std.specs.Prelude.{IsTrue};
+    ghost use Rattle.cm_eval.specs.State.{Store, store};
+    ghost use Rattle.cm_eval.specs.StoreCode.{store_code};
+    ghost use Rattle.cm_eval.specs.Limits.{is_limited_store};
+
+    ghost Value = { Store };
+
+    ghost coded = { store_code };
+
+    ghost view = { λ s. store s.defaults s.exceptions };
+
+    ghost invariant = { λ s. IsTrue (is_limited_store (store s.defaults s.exceptions)) };
+}
+
+impl State {
+    /// The state in which each cell has the least value of its type.
+    pub fn least(alloc: Global, model: &Model) -> Result<State, NoMemory>
+        ensures least { IfOk result (λ state. state ≡ least_store model.now) }
+    {
+        let defaults = least_values(alloc, model, model.states().as_slice())?;
+        Ok(State {
+            defaults,
+            exceptions: List::new(alloc),
+        })
+    }
+
+    /// The value of a cell.
+    pub fn get(&self, state: u16, key: Option<&Value>) -> &Value
+        requires state { state < length self.now.defaults }
+        ensures value { look_up self.now (named state (option_copied key.entry)) ≡ Some result.now }
+    {
+        match find(self.exceptions.as_slice(), state, key) {
+            Some(at) => &self.exceptions.as_slice()[at].value,
+            None => &self.defaults.as_slice()[usize::from(state)],
+        }
+    }
+
+    /// Gives a cell another value. Where the cell is named already it keeps its place, else it comes last.
+    /// At `NoMemory` the state is as it was.
+    pub fn set(&mut self, state: u16, key: Option<Value>, v: Value) -> Result<(), NoMemory>
+        requires limited { IsTrue (is_limited v) }
+        ensures ok { OnOk result (self.new ≡ put self.old (named state key) v) }
+        ensures err { OnErr result (self.new ≡ self.old) }
+    {
+        let at = find(self.exceptions.as_slice(), state, key.as_ref());
+        let exception = Except {
+            cell: CellName { state, key },
+            value: v,
+        };
+        match at {
+            Some(at) => {
+                self.exceptions.set(at, exception);
+                Ok(())
+            }
+            None => {
+                self.exceptions.push(exception)?;
+                Ok(())
+            }
+        }
+    }
+
+    /// The number of exceptions.
+    pub fn len(&self) -> usize
+        ensures count { result ≡ length self.now.exceptions }
+    {
+        self.exceptions.len()
+    }
+
+    /// An exception by its place in the list.
+    pub fn at(&self, n: usize) -> &Except
+        requires within { n < length self.now.exceptions }
+        ensures exception { slice_get self.now.exceptions n ≡ Some result.now }
+    {
+        &self.exceptions.as_slice()[n]
+    }
+}
+
+// The least value of each state.
+fn least_values(alloc: Global, model: &Model, states: &[StateDecl]) -> Result<Vals, NoMemory>
+    requires { states.now ≡ model.now.states }
+    ensures { IfOk result (λ values. values ≡ (least_store model.now).defaults) }
+{
+    let mut values = List::new(alloc);
+    for state in states {
+        values.push(least(alloc, model, &state.value)?)?;
+    }
+    Ok(values)
+}
+
+// Whether two keys are one.
+fn is_key(left: &Value, right: &Value) -> bool
+    ensures { result ≡ same_value left.now right.now }
+{
+    same(left, right)
+}
+
+// Whether the cell is this one.
+fn is_cell(cell: &CellName, state: u16, key: Option<&Value>) -> bool
+    ensures { result ≡ same_cell cell.now (named state (option_copied key.entry)) }
+{
+    if cell.state != state {
+        return false;
+    }
+    match (&cell.key, key) {
+        (None, None) => true,
+        (Some(left), Some(right)) => is_key(left, right),
+        (None, Some(_)) => false,
+        (Some(_), None) => false,
+    }
+}
+
+// The place of a cell's exception.
+fn find(exceptions: &[Except], state: u16, key: Option<&Value>) -> Option<usize>
+    ensures { Finds exceptions.now (named state (option_copied key.entry)) result }
+{
+    for (i, exception) in exceptions.iter().enumerate() {
+        if is_cell(&exception.cell, state, key) {
+            return Some(i);
+        }
+    }
+    None
 }

@@ -1,0 +1,4 @@
+pub mod Folds
+pub mod Same
+pub mod Places
+pub mod Limits
