@@ -56,6 +56,13 @@ impl Model {
         }
     }
 
+    /// Tells a proof that the tables are well typed.
+    pub fn well_typed(&self)
+        ensures well_typed { IsWellTyped self.now }
+    {
+        let _ = &self.sorts;
+    }
+
     /// The names of the sorts.
     pub fn sorts(&self) -> &List<Name>
         ensures sorts { result.now ≡ self.now.sorts }

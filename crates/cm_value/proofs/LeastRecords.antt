@@ -63,3 +63,23 @@ record_at ints rs i k d fields parts lt same are made =
 pub no_record : (ints : List IntDecl) (rs : List RecDecl) (i : ℕ) → length rs ≤ i → or_empty (slice_get (least_records ints rs) i) ≡ value.Rec []
 unfolding least_records
 no_record ints rs i le = ap or_empty (slice_get_past (least_records ints rs) i (omega (arith, length_values (least_record ints) [] rs)))
+
+get_taken : {X : Type 0} (xs : List X) (n i : ℕ) (x : X) → i < n → slice_get xs i ≡ Some x → slice_get (take n xs) i ≡ Some x
+get_taken xs zero i x lt at = absurd (omega arith)
+get_taken [] (suc n) i x lt at = at
+get_taken (y ∷ xs) (suc n) zero x lt at = at
+get_taken (y ∷ xs) (suc n) (suc i) x lt at = get_taken xs n i x (omega arith) at
+
+taken : {X : Type 0} (xs : List X) (n i : ℕ) → i ≤ n → take i (take n xs) ≡ take i xs
+taken xs n zero le = refl
+taken xs zero (suc i) le = absurd (omega arith)
+taken [] (suc n) (suc i) le = refl
+taken (x ∷ xs) (suc n) (suc i) le = ap (λ ys. x ∷ ys) (taken xs n i (omega arith))
+
+-- the same among the first records
+pub least_at : (ints : List IntDecl) (rs : List RecDecl) (n i : ℕ) (d : RecDecl) → i < n → slice_get rs i ≡ Some d
+    → or_empty (slice_get (least_records ints (take n rs)) i) ≡ value.Rec (map (λ p. least_in ints (least_records ints (take i rs)) p.ty) d.fields)
+unfolding least_records
+least_at ints rs n i d lt at =
+    ap or_empty (value_at (least_record ints) (take n rs) i d (get_taken rs n i d lt at))
+    ∙ ap (λ qs. least_record ints (record_values (least_record ints) [] qs) d) (taken rs n i (omega arith))

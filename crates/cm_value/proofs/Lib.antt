@@ -1,6 +1,11 @@
-pub mod Members
-pub mod LeastRecords
+pub mod Types
+pub mod Declared
 pub mod Folds
 pub mod Induction
+pub mod Members
+pub mod LeastRecords
 pub mod Untyped
 pub mod Parts
+pub mod LeastMember
+pub mod Relabelled
+pub mod Limited

@@ -1,3 +1,4 @@
 pub mod Membership
 pub mod Least
 pub mod Relabelling
+pub mod Limits

@@ -1,5 +1,5 @@
 -- The exchange of two elements of a sort wherever they stand.
-use Rattle.std.specs.Prelude.{ℕ, ◌==◌, Bool, true, false, List, [], ◌∷◌, slice_get, map, Option, Some, None, if◌then◌else◌}
+use Rattle.std.specs.Prelude.{ℕ, ◌==◌, Bool, true, false, not, ◌&&◌, ◌||◌, IsTrue, List, [], ◌∷◌, slice_get, map, Option, Some, None, if◌then◌else◌}
 use Rattle.cm_model.specs.Tables.{Tables}
 use Rattle.cm_model.specs.declared.ty.Ty.{Ty, out-Ty}
 use Rattle.cm_model.specs.declared.ty.Ty.TheOpen.{Ty-F}
@@ -69,3 +69,30 @@ relabel_of t by = fold-Value Relabel (relabel_step t by)
 -- the value with the two elements exchanged
 abbrev pub relabelled : Tables → Swap → Ty → Value → Value
 relabelled t by ty v = relabel_of t by v (Some ty)
+
+-- whether the element stands in a value, by its type
+abbrev pub Stands : Type 0
+Stands = Option Ty → Bool
+
+abbrev pub stands_in_one : List Stands → List Ty → Bool
+stands_in_one [] tys = false
+stands_in_one (m ∷ ms) [] = m None || stands_in_one ms []
+stands_in_one (m ∷ ms) (ty ∷ tys) = m (Some ty) || stands_in_one ms tys
+
+abbrev pub stands_step : Tables → ℕ → ℕ → Value-F Stands → Stands
+stands_step t sort x (Value-F.Elem n) ty = is_of_sort sort ty && (n == x)
+stands_step t sort x (Value-F.Int n) ty = false
+stands_step t sort x (Value-F.Tag n) ty = false
+stands_step t sort x (Value-F.Rec ms) ty = stands_in_one ms (types_of_fields t ty)
+stands_step t sort x Value-F.None ty = false
+stands_step t sort x (Value-F.Some m) ty = m (type_of_payload ty)
+
+abbrev pub stands_of : Tables → ℕ → ℕ → Value → Stands
+stands_of t sort x = fold-Value Stands (stands_step t sort x)
+
+-- the element x of the sort stands nowhere in the value
+abbrev pub lacks : Tables → ℕ → ℕ → Ty → Value → Bool
+lacks t sort x ty v = not (stands_of t sort x v (Some ty))
+
+abbrev pub LacksBoth : Tables → Swap → Ty → Value → Type 0
+LacksBoth t by ty v = IsTrue (lacks t by.sort by.x ty v) × IsTrue (lacks t by.sort by.y ty v)

@@ -14,8 +14,11 @@ use std::alloc::Global;
 pub fn least(alloc: Global, model: &Model, ty: &Ty) -> Result<Value, NoMemory>
     requires { IsType model.now ty.now }
     ensures exact { IfOk result (λ value. value ≡ least_of model.now ty.now) }
+    ensures of_the_type { IfOk result (λ value. IsValueOf model.now ty.now value) }
 {
-    least_in(alloc, model.ints().as_slice(), model.records().as_slice(), ty)
+    model.well_typed();
+    let value = least_in(alloc, model.ints().as_slice(), model.records().as_slice(), ty)?;
+    Ok(value)
 }
 
 /// The least value of a type whose records are among these.

@@ -2,7 +2,7 @@ ghost use Rattle.std.specs.Prelude.{◌≡◌, IfOk, map, slice_get, option_map,
 ghost use Rattle.std.specs.Option.{option_copied};
 ghost use Rattle.cm_model.specs.declared.ty.Ty.{out-Ty};
 ghost use Rattle.cm_value.specs.Membership.{IsValueOf};
-ghost use Rattle.cm_value.specs.Relabelling.{relabelled, relabel_of, swapped, each_relabelled, is_sort_form, types_form, types_in, payload_form};
+ghost use Rattle.cm_value.specs.Relabelling.{LacksBoth, relabelled, relabel_of, swapped, each_relabelled, is_sort_form, types_form, types_in, payload_form};
 
 use crate::{Swap, Value, Vals, copy_value};
 use cm_model::{Boxed, List, Model, NoMemory, Part, RecDecl, Ty};
@@ -21,8 +21,14 @@ pub fn relabel(
 ) -> Result<Value, NoMemory>
     requires { IsValueOf model.now ty.now v.now }
     ensures exact { IfOk result (λ value. value ≡ relabelled model.now by.now ty.now v.now) }
+    ensures of_the_type { IfOk result (λ value. IsValueOf model.now ty.now value) }
+    ensures back { IfOk result (λ value. relabelled model.now by.now ty.now value ≡ v.now) }
+
+    // A value in which neither element stands stays as it is.
+    ensures untouched { IfOk result (λ value. LacksBoth model.now by.now ty.now v.now → value ≡ v.now) }
 {
-    relabel_value(alloc, model, v, ty, by)
+    let value = relabel_value(alloc, model, v, ty, by)?;
+    Ok(value)
 }
 
 /// Where the value is none of the type, what has no type of its own stays as it is.
