@@ -3,3 +3,6 @@ pub mod Same
 pub mod Places
 pub mod Limits
 pub mod Fields
+pub mod Declared
+pub mod Measures
+pub mod Steps
