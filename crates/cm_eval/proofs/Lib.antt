@@ -6,3 +6,9 @@ pub mod Fields
 pub mod Declared
 pub mod Measures
 pub mod Steps
+pub mod Nodes
+pub mod Reaches
+pub mod Near
+pub mod Touching
+pub mod Natural
+pub mod Functions

@@ -59,7 +59,7 @@ pub fn evaluate(
         }
         Expr::With { of, sets } => match evaluate_value(rules, of.get(), locals, state, log)? {
             Some(v) => {
-                let r = evaluate_with(rules, v, sets.as_slice(), locals, state, log)?;
+                let r = evaluate_with(rules, sets.as_slice(), v, locals, state, log)?;
                 Ok(r)
             }
             None => Ok(None),
@@ -285,8 +285,8 @@ fn evaluate_fields(
 #[cycle(evaluate)]
 fn evaluate_with(
     rules: Rules,
-    of: Value,
     sets: &[SetField],
+    of: Value,
     locals: &[Value],
     state: &mut State,
     log: &mut Log,
@@ -298,7 +298,7 @@ fn evaluate_with(
     ensures gives { IfOk result (λ r. Gives rules.entry (replaced_of of (sets_in rules.entry sets.now) locals.now) r state.old log.old state.new log.new) }
     ensures fits { IfOk result (λ r. IfSome r (IsFitting (sets_reach sets.now))) }
 {
-    match evaluate_sets(rules, of, sets, locals, state, log)? {
+    match evaluate_sets(rules, sets, of, locals, state, log)? {
         Some(w) => Ok(Some(Operand::Plain(w))),
         None => Ok(None),
     }
@@ -308,8 +308,8 @@ fn evaluate_with(
 #[cycle(evaluate)]
 fn evaluate_sets(
     rules: Rules,
-    of: Value,
     sets: &[SetField],
+    of: Value,
     locals: &[Value],
     state: &mut State,
     log: &mut Log,
