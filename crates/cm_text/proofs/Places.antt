@@ -1,10 +1,10 @@
 -- How places go on from byte to byte.
-use Rattle.std.proofs.Common.{arith, ◌≡◌, ◌≢◌, ℕ, ◌+◌, ◌-◌, ◌^◌, ◌<◌, ◌≤◌, true, false, not, List, length, take, get_or, Some, ap, sym, subst, refl, ◌∙◌}
-use Rattle.std.specs.List.{slice_get, suffix_len}
-use Rattle.std.proofs.lemmas.Bool.{ne_eqb}
-use Rattle.std.proofs.lemmas.List.{length-take}
+use Rattle.std.proofs.Common.{arith, ◌≡◌, ◌≢◌, ℕ, zero, suc, ◌+◌, ◌-◌, ◌^◌, ◌<◌, ◌≤◌, true, false, not, List, length, drop, take, get_or, Some, ap, sym, subst, refl, ◌∙◌}
+use Rattle.std.specs.List.{prefix_len, slice_get, suffix_len}
+use Rattle.std.proofs.lemmas.Bool.{false≢true, ne_eqb}
+use Rattle.std.proofs.lemmas.List.{get_or-drop, length-drop, length-take}
 use Rattle.std.proofs.lemmas.Option.{get_or_from_slice_get, slice_get_within}
-use Rattle.std.proofs.lemmas.List.Sums.{count_by-le-length, count_by_more_no, count_by_more_yes, suffix_len-le-length, suffix_len-take_no, suffix_len-take_yes}
+use Rattle.std.proofs.lemmas.List.Sums.{count_by-le-length, count_by_more_no, count_by_more_yes, prefix_len-drop_yes, prefix_len-le-length, prefix_len_passes, suffix_len-le-length, suffix_len-take_no, suffix_len-take_yes}
 use Rattle.cm_text.specs.Place.{is_in_line, is_newline, place_in}
 use Rattle.cm_text.specs.Standing.{IsKept, Standing}
 
@@ -60,3 +60,15 @@ pub read_at : (text : List ℕ) (at byte : ℕ) (standing : Standing) → record
 read_at text at byte standing view gives =
     let here : slice_get text at ≡ Some byte = ap (λ (s : Standing). slice_get s.text s.at) view ∙ sym gives in
     (slice_get_within text at byte here, get_or_from_slice_get text at byte 0 here)
+
+-- so many bytes of the line further on
+pub kept_more : (text : List ℕ) (count at line before : ℕ) → IsKept text at line before → count ≤ prefix_len is_in_line (drop at text) → IsKept text (at + count) line before
+kept_more text zero at line before kept some = subst (λ k. IsKept text k line before) (let e : at ≡ at + 0 = omega arith in e) kept
+kept_more text (suc count) at line before kept some =
+    let first : 0 < prefix_len is_in_line (drop at text) = omega arith in
+    let within : at < length text = omega (arith, prefix_len-le-length is_in_line (drop at text), length-drop at text) in
+    let here : is_in_line (get_or text at 0) ≡ true =
+    ap is_in_line (ap (λ k. get_or text k 0) (let e : at ≡ at + 0 = omega arith in e) ∙ sym (get_or-drop at text 0 0)) ∙ prefix_len_passes is_in_line (drop at text) 0 0 first in
+    let other : get_or text at 0 ≢ 10 = λ e. false≢true (sym (ap is_in_line e) ∙ here) in
+    let rest : count ≤ prefix_len is_in_line (drop (at + 1) text) = omega (arith, prefix_len-drop_yes is_in_line text at 0 within here) in
+    subst (λ k. IsKept text k line before) (let e : at + 1 + count ≡ at + suc count = omega arith in e) (kept_more text count (at + 1) line before (kept_other text at line before kept within other) rest)

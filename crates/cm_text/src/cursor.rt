@@ -1,6 +1,7 @@
 // A cursor in a text, with its place.
-ghost use Rattle.std.specs.Prelude.{◌≡◌, ◌+◌, ◌-◌, ◌^◌, ◌<◌, length, slice_get, MatchOption};
-ghost use Rattle.cm_text.specs.Place.{place_in};
+ghost use Rattle.std.specs.Prelude.{◌≡◌, ◌+◌, ◌-◌, ◌^◌, ◌<◌, ◌≤◌, drop, length, slice_get, MatchOption};
+ghost use Rattle.std.specs.List.{prefix_len};
+ghost use Rattle.cm_text.specs.Place.{is_in_line, place_in};
 
 use cm_model::Place;
 use std::marker::Model;
@@ -75,5 +76,22 @@ impl<'a> Cursor<'a> {
             line: self.line,
             col: (self.at - self.before + 1) as u32,
         }
+    }
+
+    /// The bytes from the next one on.
+    #[inline(always)]
+    pub fn rest(&self) -> &'a [u8]
+        ensures { result.now ≡ drop self.now.at self.now.text }
+    {
+        &self.bytes[self.at..]
+    }
+
+    /// Takes so many bytes of the line at once.
+    #[inline(always)]
+    pub fn skip(&mut self, count: usize)
+        requires { count ≤ prefix_len is_in_line (drop self.old.at self.old.text) }
+        ensures { self.new ≡ record self.old { at = self.old.at + count } }
+    {
+        self.at += count;
     }
 }

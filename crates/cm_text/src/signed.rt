@@ -1,5 +1,5 @@
 // A text that is the numeral of a number with a sign.
-ghost use Rattle.std.specs.Prelude.{◌≡◌, ◌≢◌, ℤ, pos, ◌≤ℤ◌, ℕ, suc, ◌∷◌, ◌++◌, ◌<◌, ◌^◌, decimal, FitsSigned, IfOk, OnOk, OnErr};
+ghost use Rattle.std.specs.Prelude.{◌≡◌, ◌≢◌, ℤ, pos, ◌≤ℤ◌, ℕ, suc, ◌∷◌, ◌++◌, ◌<◌, ◌^◌, decimal, FitsSigned, IfOk, MatchBool, OnOk, OnErr};
 ghost use Rattle.std.specs.Fmt.{signed_decimal};
 ghost use Rattle.std.specs.Int.{w64};
 
@@ -42,6 +42,12 @@ fn read_signed(text: &[u8]) -> Result<i64, NotNumber>
     }
 }
 
+fn is_within(n: i64, low: i64, high: i64) -> bool
+    ensures { MatchBool result ((low ≤ℤ n) × (n ≤ℤ high)) (¬ ((low ≤ℤ n) × (n ≤ℤ high))) }
+{
+    low <= n && n <= high
+}
+
 /// Reads decimal digits without a needless leading zero, with a `-` before them for a number below nought,
 /// from `low` to `high`.
 pub fn read_i64(text: &[u8], low: i64, high: i64) -> Result<i64, NotNumber>
@@ -52,10 +58,10 @@ pub fn read_i64(text: &[u8], low: i64, high: i64) -> Result<i64, NotNumber>
     let Ok(n) = read_signed(text) else {
         return Err(NotNumber);
     };
-    if n < low || high < n {
-        return Err(NotNumber);
+    if is_within(n, low, high) {
+        return Ok(n);
     }
-    Ok(n)
+    Err(NotNumber)
 }
 
 /// Appends the decimal numeral, with a `-` before a number below nought. Nothing is appended where memory

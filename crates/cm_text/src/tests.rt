@@ -117,3 +117,14 @@ fn a_cursor_knows_its_place(rt: HostRuntime) -> Result<(), Fail> {
     }
     Ok(())
 }
+
+#[test]
+fn a_cursor_skips_bytes_of_its_line(rt: HostRuntime) -> Result<(), Fail> {
+    let mut cursor = Cursor::new(b"\nname x");
+    assert_eq!(rt; cursor.next(), Some(b'\n'));
+    assert_eq!(rt; cursor.rest(), b"name x".as_slice());
+    cursor.skip(4);
+    assert_eq!(rt; cursor.rest(), b" x".as_slice());
+    assert_eq!(rt; cursor.place(), Place { line: 2, col: 5 });
+    Ok(())
+}

@@ -1,0 +1,17 @@
+-- The tokens of a text, each with its place.
+use Rattle.std.specs.Prelude.{if◌then◌else◌, nat_lt, ℕ, zero, suc, ◌+◌, List, [], ◌∷◌, drop, length}
+use Rattle.cm_text.specs.Place.{place_in}
+use Rattle.cm_tokens.specs.First.{first_token}
+use Rattle.cm_tokens.specs.Gap.{gap_of}
+use Rattle.cm_tokens.specs.declared.token.Placed.{Placed}
+
+-- the tokens behind so many bytes of the text, up to the end as the last; the first number is more than the tokens there can be
+unfoldable pub tokens_within : ℕ → List ℕ → ℕ → List Placed
+tokens_within zero text behind = []
+tokens_within (suc more) text behind =
+  let at = behind + gap_of (drop behind text) in
+  let first = first_token (drop at text) in
+  record { token = first.0; at = place_in text at } ∷ (if nat_lt at (length text) then tokens_within more text (at + first.1) else [])
+
+unfoldable pub tokens_of : List ℕ → List Placed
+tokens_of text = tokens_within (length text + 1) text 0
