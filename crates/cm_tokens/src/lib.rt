@@ -4,6 +4,8 @@
 mod bytes;
 mod examples;
 mod gap;
+mod mark;
 mod token;
+mod word;
 
 pub use token::{Placed, Token};
