@@ -3,8 +3,10 @@
 
 mod bytes;
 mod examples;
+mod first;
 mod gap;
 mod mark;
+mod number;
 mod token;
 mod word;
 

@@ -1,10 +1,15 @@
 // Reserved words and names.
 ghost use Rattle.std.specs.Prelude.{◌≡◌, List, ℕ, [], ◌∷◌, unwrap_or, IfOk};
-ghost use Rattle.cm_tokens.specs.First.{spelled_or, word_of};
+ghost use Rattle.std.specs.List.{AllPass};
+ghost use Rattle.cm_tokens.specs.Bytes.{is_name_byte};
+ghost use Rattle.cm_tokens.specs.First.{run_of, spelled_or, word_of};
 ghost use Rattle.cm_tokens.specs.Spellings.{reserved_words};
 ghost use Rattle.cm_tokens.specs.declared.token.Token.{Token};
 
+use crate::bytes::name_len;
 use crate::token::Token;
+use cm_model::{Name, NoMemory};
+use std::alloc::Global;
 
 #[inline(always)]
 fn exactly(run: &[u8], word: &[u8], token: Token) -> Option<Token>
@@ -69,4 +74,52 @@ fn reserved(first: u8, behind: &[u8]) -> Option<Token>
         b'w' => either(behind, b"here", Token::Where, b"ith", Token::With),
         _ => None,
     }
+}
+
+// A name has at most so many bytes.
+const LONGEST_NAME: usize = 40;
+
+fn reserved_word(run: &[u8]) -> Option<Token>
+    ensures { (other : Token) → unwrap_or result other ≡ spelled_or other reserved_words run.now }
+{
+    match run {
+        [first, behind @ ..] => reserved(*first, behind),
+        [] => None,
+    }
+}
+
+fn name(alloc: Global, run: &[u8]) -> Result<Name, NoMemory>
+    requires { AllPass is_name_byte run.now }
+    ensures { IfOk result (λ name. name ≡ run.now) }
+{
+    let Ok(text) = str::from_utf8(run) else {
+        unreachable!();
+    };
+    Name::from_str(alloc, text)
+}
+
+// The token of a whole run that begins with a letter.
+#[tactic(auto, unfolding(crate::specs::First::word_of))]
+fn word_token(alloc: Global, run: &[u8]) -> Result<Token, NoMemory>
+    requires { AllPass is_name_byte run.now }
+    ensures { IfOk result (λ token. token ≡ word_of run.now) }
+{
+    if let Some(token) = reserved_word(run) {
+        return Ok(token);
+    }
+    if run.len() > LONGEST_NAME {
+        return Ok(Token::Foreign);
+    }
+    let name = name(alloc, run)?;
+    Ok(Token::Name(name))
+}
+
+/// The run of letters, digits and `_` at the front as a token, and its length.
+#[inline(always)]
+pub fn word(alloc: Global, text: &[u8]) -> Result<(Token, usize), NoMemory>
+    ensures { IfOk result (λ first. first ≡ run_of is_name_byte word_of text.now) }
+{
+    let len = name_len(text);
+    let token = word_token(alloc, &text[..len])?;
+    Ok((token, len))
 }
