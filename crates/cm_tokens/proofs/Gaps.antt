@@ -1,5 +1,5 @@
 -- How what separates goes on.
-use Rattle.std.proofs.Common.{arith, ◌≡◌, ◌≢◌, ℕ, suc, ◌+◌, ◌<◌, ◌≤◌, ◌||◌, ◌&&◌, Bool, true, false, not, cond, eqb, List, [], ◌∷◌, drop, length, get_or, Some, None, inl, inr, ap, sym, subst, refl, ◌∙◌}
+use Rattle.std.proofs.Common.{arith, ◌≡◌, ℕ, suc, ◌+◌, ◌<◌, ◌||◌, ◌&&◌, Bool, true, false, cond, eqb, List, [], ◌∷◌, drop, length, get_or, Some, None, inl, inr, ap, sym, refl, ◌∙◌}
 use Rattle.std.specs.List.{prefix_len, slice_get}
 use Rattle.std.proofs.lemmas.Bool.{cases_lt, false≢true}
 use Rattle.std.proofs.lemmas.List.{drop-drop, drop_all, drop_more}
@@ -108,3 +108,18 @@ pub moved : (new old : Standing) (n : ℕ) → new ≡ record { text = old.text;
 moved new old n e part =
     let whole : Standing → ℕ = λ s. s.at + gap_of (drop s.at s.text) in
     ap whole e ∙ omega (arith, part)
+
+-- nothing separates behind what separates
+gap_twice_from : (in_comment : Bool) (xs : List ℕ) → gap_of (drop (gap_from in_comment xs) xs) ≡ 0
+unfolding gap_of
+gap_twice_from in_comment [] = refl
+gap_twice_from true (x ∷ xs) = ap (λ k. gap_from false (drop k (x ∷ xs))) (let e : 1 + gap_from (is_in_line x) xs ≡ suc (gap_from (is_in_line x) xs) = omega arith in e) ∙ gap_twice_from (is_in_line x) xs
+gap_twice_from false (x ∷ xs) = by (is_space x || begins_comment (x ∷ xs)) refl (gap_twice_from (begins_comment (x ∷ xs)) xs)
+  where
+    by : (t : Bool) → (is_space x || begins_comment (x ∷ xs)) ≡ t → gap_from false (drop (gap_from (begins_comment (x ∷ xs)) xs) xs) ≡ 0 → gap_from false (drop (cond t (1 + gap_from (begins_comment (x ∷ xs)) xs) 0) (x ∷ xs)) ≡ 0
+    by true e rest = ap (λ k. gap_from false (drop k (x ∷ xs))) (let e : 1 + gap_from (begins_comment (x ∷ xs)) xs ≡ suc (gap_from (begins_comment (x ∷ xs)) xs) = omega arith in e) ∙ rest
+    by false e rest = ap (λ t. cond t (1 + gap_from (begins_comment (x ∷ xs)) xs) 0) e
+
+pub gap_twice : (xs : List ℕ) → gap_of (drop (gap_of xs) xs) ≡ 0
+unfolding gap_of
+gap_twice xs = gap_twice_from false xs

@@ -1,2 +1,4 @@
 pub mod Gaps
 pub mod Runs
+pub mod Firsts
+pub mod Listings

@@ -1,7 +1,7 @@
 -- Runs of bytes of a kind.
-use Rattle.std.proofs.Common.{arith, ◌≡◌, ℕ, ◌+◌, ◌-◌, ◌*◌, ◌^◌, ◌<◌, ◌≤◌, Bool, true, List, [], ◌∷◌, take, length, get_or, ap, sym, subst, refl, ◌∙◌}
+use Rattle.std.proofs.Common.{arith, ◌≡◌, ℕ, ◌+◌, ◌-◌, ◌*◌, ◌<◌, ◌≤◌, Bool, true, List, [], ◌∷◌, take, length, get_or, ap, ◌∙◌}
 use Rattle.std.specs.Char.{digit_value, is_ascii_digit}
-use Rattle.std.specs.List.{All, AllPass, prefix_len}
+use Rattle.std.specs.List.{AllPass, prefix_len}
 use Rattle.std.specs.Str.{IsUtf8}
 use Rattle.std.specs.Str.Parse.{AllDigits, digits_value}
 use Rattle.std.proofs.lemmas.Bool.Decides.{nat_tests}
@@ -19,8 +19,8 @@ pub run_passes : (p : ℕ → Bool) (text : List ℕ) → AllPass p (take (prefi
 run_passes p text =
     let n = prefix_len p text in
     All-from_get_or (λ b. p b ≡ true) (take n text) 0 (λ i within.
-      let below : i < n = omega (arith, length-take n text) in
-      ap p (get_or-take n text i 0 below) ∙ prefix_len_passes p text i 0 below)
+    let below : i < n = omega (arith, length-take n text) in
+    ap p (get_or-take n text i 0 below) ∙ prefix_len_passes p text i 0 below)
 
 name_byte_below : (b : ℕ) → is_name_byte b ≡ true → b < 128
 name_byte_below b name = grind (arith, nat_tests)

@@ -1,6 +1,5 @@
 -- Worked texts and their tokens.
-use Rattle.std.specs.Prelude.{◌≡◌, ℕ, List, [], ◌∷◌, codes}
-use Rattle.cm_model.specs.declared.place.Place.{Place}
+use Rattle.std.specs.Prelude.{◌≡◌, ℕ, [], ◌∷◌, codes}
 use Rattle.cm_tokens.specs.Listing.{tokens_of}
 use Rattle.cm_tokens.specs.declared.token.Token.{Token}
 use Rattle.cm_tokens.specs.declared.token.Token.TheVariants as token

@@ -40,6 +40,6 @@ run_of p token_of text = let run = take_while p text in (token_of run, length ru
 unfoldable pub first_token : List ℕ → Token × ℕ
 first_token [] = (token.End, 0)
 first_token (b ∷ bs) =
-  if is_ascii_alphabetic b then run_of is_name_byte word_of (b ∷ bs)
-  else if is_ascii_digit b then run_of is_ascii_digit number_of (b ∷ bs)
-  else mark_of (b ∷ bs)
+    if is_ascii_alphabetic b then run_of is_name_byte word_of (b ∷ bs)
+    else if is_ascii_digit b then run_of is_ascii_digit number_of (b ∷ bs)
+    else mark_of (b ∷ bs)

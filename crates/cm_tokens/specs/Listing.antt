@@ -9,9 +9,12 @@ use Rattle.cm_tokens.specs.declared.token.Placed.{Placed}
 unfoldable pub tokens_within : ℕ → List ℕ → ℕ → List Placed
 tokens_within zero text behind = []
 tokens_within (suc more) text behind =
-  let at = behind + gap_of (drop behind text) in
-  let first = first_token (drop at text) in
-  record { token = first.0; at = place_in text at } ∷ (if nat_lt at (length text) then tokens_within more text (at + first.1) else [])
+    let at = behind + gap_of (drop behind text) in
+    let first = first_token (drop at text) in
+    record { token = first.0; at = place_in text at } ∷ (if nat_lt at (length text) then tokens_within more text (at + first.1) else [])
+
+unfoldable pub tokens_behind : List ℕ → ℕ → List Placed
+tokens_behind text behind = tokens_within (suc (length text)) text behind
 
 unfoldable pub tokens_of : List ℕ → List Placed
-tokens_of text = tokens_within (length text + 1) text 0
+tokens_of text = tokens_behind text 0

@@ -37,7 +37,8 @@ fn skip_one(cursor: &mut Cursor<'_>) -> bool
 /// Takes the spaces and comments before the next token.
 #[inline(always)]
 pub fn skip_gap(cursor: &mut Cursor<'_>)
-    ensures { cursor.new ≡ record cursor.old { at = cursor.old.at + gap_of (drop cursor.old.at cursor.old.text) } }
+    ensures moves { cursor.new ≡ record cursor.old { at = cursor.old.at + gap_of (drop cursor.old.at cursor.old.text) } }
+    ensures stops { gap_of (drop cursor.new.at cursor.new.text) ≡ 0 }
 {
     'gap: while skip_one(cursor) {}
 }

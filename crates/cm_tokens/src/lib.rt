@@ -8,6 +8,8 @@ mod gap;
 mod mark;
 mod number;
 mod token;
+mod tokens;
 mod word;
 
 pub use token::{Placed, Token};
+pub use tokens::Tokens;

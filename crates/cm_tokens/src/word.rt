@@ -22,7 +22,13 @@ fn exactly(run: &[u8], word: &[u8], token: Token) -> Option<Token>
 }
 
 #[inline(always)]
-fn either(run: &[u8], first: &[u8], first_token: Token, second: &[u8], second_token: Token) -> Option<Token>
+fn either(
+    run: &[u8],
+    first: &[u8],
+    first_token: Token,
+    second: &[u8],
+    second_token: Token,
+) -> Option<Token>
     ensures { (other : Token) → unwrap_or result other ≡ spelled_or other ((first.now, first_token) ∷ (second.now, second_token) ∷ []) run.now }
 {
     if run == first {
