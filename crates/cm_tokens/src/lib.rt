@@ -13,3 +13,6 @@ mod word;
 
 pub use token::{Placed, Token};
 pub use tokens::Tokens;
+
+#[cfg(test)]
+mod tests;
