@@ -14,17 +14,17 @@ use Rattle.cm_tokens.proofs.Firsts.{first_some}
 use Rattle.cm_tokens.proofs.Gaps.{gap_twice}
 
 -- the place of the next token
-abbrev start : List ℕ → ℕ → ℕ
+abbrev pub start : List ℕ → ℕ → ℕ
 start text behind = behind + gap_of (drop behind text)
 
 stops : (text : List ℕ) (behind : ℕ) → gap_of (drop (start text behind) text) ≡ 0
 stops text behind = ap gap_of (sym (drop-drop (gap_of (drop behind text)) behind text)) ∙ gap_twice (drop behind text)
 
 -- the place behind the next token
-abbrev after : List ℕ → ℕ → ℕ
+abbrev pub after : List ℕ → ℕ → ℕ
 after text behind = start text behind + (first_token (drop (start text behind) text)).1
 
-further : (text : List ℕ) (behind : ℕ) → nat_lt (start text behind) (length text) ≡ true → (start text behind < length text) × (behind < after text behind)
+pub further : (text : List ℕ) (behind : ℕ) → nat_lt (start text behind) (length text) ≡ true → (start text behind < length text) × (behind < after text behind)
 further text behind within =
     let at = start text behind in
     let below : at < length text = grind (arith, nat_tests) in
@@ -34,7 +34,7 @@ where_more : (more : Bool) (xs ys : List Placed) → (more ≡ true → xs ≡ y
 where_more true xs ys same = same refl
 where_more false xs ys same = refl
 
-abbrev next : List ℕ → ℕ → Placed
+abbrev pub next : List ℕ → ℕ → Placed
 next text behind = record { token = (first_token (drop (start text behind) text)).0; at = place_in text (start text behind) }
 
 -- a larger bound gives the same tokens

@@ -1,9 +1,10 @@
 -- The tokens of a text, each with its place.
-use Rattle.std.specs.Prelude.{if◌then◌else◌, nat_lt, ℕ, zero, suc, ◌+◌, List, [], ◌∷◌, drop, length}
+use Rattle.std.specs.Prelude.{◌≡◌, ◌≢◌, if◌then◌else◌, nat_lt, ℕ, zero, suc, ◌+◌, List, [], ◌∷◌, drop, length}
 use Rattle.cm_text.specs.Place.{place_in}
 use Rattle.cm_tokens.specs.First.{first_token}
 use Rattle.cm_tokens.specs.Gap.{gap_of}
 use Rattle.cm_tokens.specs.declared.token.Placed.{Placed}
+use Rattle.cm_tokens.specs.declared.token.Token.TheVariants as token
 
 -- the tokens behind so many bytes of the text, up to the end as the last; the first number is more than the tokens there can be
 unfoldable pub tokens_within : ℕ → List ℕ → ℕ → List Placed
@@ -18,3 +19,12 @@ tokens_behind text behind = tokens_within (suc (length text)) text behind
 
 unfoldable pub tokens_of : List ℕ → List Placed
 tokens_of text = tokens_behind text 0
+
+-- the end is the last token, and only the last
+abbrev pub EndsOnce : List Placed → Type 0
+EndsOnce [] = ⊥
+EndsOnce (p ∷ []) = p.token ≡ token.End
+EndsOnce (p ∷ q ∷ rest) = (p.token ≢ token.End) × EndsOnce (q ∷ rest)
+
+abbrev pub TokensEndOnce : Type 0
+TokensEndOnce = (text : List ℕ) → EndsOnce (tokens_of text)

@@ -2,15 +2,16 @@
 #![tactic(auto)]
 
 mod bytes;
-mod examples;
 mod first;
 mod gap;
+mod laws;
 mod mark;
 mod number;
 mod token;
 mod tokens;
 mod word;
 
+pub use laws::tokens_end_once;
 pub use token::{Placed, Token};
 pub use tokens::Tokens;
 
