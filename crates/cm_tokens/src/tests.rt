@@ -93,8 +93,9 @@ fn told(
     assert!(rt; text.len() < 4_294_967_295);
     let mut told = String::new(alloc);
     let mut tokens = Tokens::new(alloc, text)?;
+    let mut place = tokens.place();
     for _ in 0..=text.len() {
-        let place = tokens.place();
+        place = tokens.place();
         let Some(next) = tokens.peek() else {
             break;
         };
@@ -105,8 +106,12 @@ fn told(
         let taken = tokens.take()?.expect(rt, "the token that was there");
         assert!(rt; taken.at == place);
     }
-    assert!(rt; tokens.peek().is_none());
-    assert!(rt; tokens.take()?.is_none());
+    // The end was taken, and its place stays.
+    for _ in 0..2 {
+        assert!(rt; tokens.peek().is_none());
+        assert!(rt; tokens.place() == place);
+        assert!(rt; tokens.take()?.is_none());
+    }
     Ok(told)
 }
 
