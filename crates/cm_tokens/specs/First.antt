@@ -14,7 +14,7 @@ abbrev pub spelled_or : Token → List (List ℕ × Token) → List ℕ → Toke
 spelled_or other [] run = other
 spelled_or other (w ∷ ws) run = if bytes_eq w.0 run then w.1 else spelled_or other ws run
 
--- a letter and what goes on a name: a reserved word, or a name of at most 40 bytes
+-- a run that begins with a letter: a reserved word, or a name of at most 40 bytes
 unfoldable pub word_of : List ℕ → Token
 word_of run = spelled_or (if nat_le (length run) 40 then token.Name run else token.Foreign) reserved_words run
 
@@ -22,6 +22,7 @@ word_of run = spelled_or (if nat_le (length run) 40 then token.Name run else tok
 abbrev pub is_numeral : List ℕ → Bool
 is_numeral digits = bytes_eq (codes "0") digits || (nat_le (length digits) 7 && not (slice_index digits 0 == 48))
 
+-- a run of digits
 unfoldable pub number_of : List ℕ → Token
 number_of digits = if is_numeral digits then token.Number (digits_value 10 digits) else token.Foreign
 
@@ -33,7 +34,7 @@ mark_among (m ∷ ms) text = if starts_with nat_eq text m.0 then (m.1, length m.
 unfoldable pub mark_of : List ℕ → Token × ℕ
 mark_of text = mark_among marks text
 
--- a run of such bytes at the front as a token of its own
+-- the longest run of such bytes at the front, as one token
 abbrev pub run_of : (ℕ → Bool) → (List ℕ → Token) → List ℕ → Token × ℕ
 run_of p token_of text = let run = take_while p text in (token_of run, length run)
 

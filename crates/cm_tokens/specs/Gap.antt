@@ -9,7 +9,7 @@ begins_comment [] = false
 begins_comment (a ∷ []) = false
 begins_comment (a ∷ b ∷ rest) = a == 47 && b == 47
 
--- how many bytes separate, from a place inside a comment on or from one outside
+-- how many bytes at the front separate, where what stands before them ends inside a comment or not
 abbrev pub gap_from : Bool → List ℕ → ℕ
 gap_from in_comment [] = 0
 gap_from true (b ∷ bs) = 1 + gap_from (is_in_line b) bs

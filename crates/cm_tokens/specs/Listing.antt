@@ -6,7 +6,7 @@ use Rattle.cm_tokens.specs.Gap.{gap_of}
 use Rattle.cm_tokens.specs.declared.token.Placed.{Placed}
 use Rattle.cm_tokens.specs.declared.token.Token.TheVariants as token
 
--- the tokens behind so many bytes of the text, up to the end as the last; the first number is more than the tokens there can be
+-- the tokens behind so many bytes of the text, with the end as the last, but no more than the first number
 unfoldable pub tokens_within : ℕ → List ℕ → ℕ → List Placed
 tokens_within zero text behind = []
 tokens_within (suc more) text behind =
@@ -14,9 +14,11 @@ tokens_within (suc more) text behind =
     let first = first_token (drop at text) in
     record { token = first.0; at = place_in text at } ∷ (if nat_lt at (length text) then tokens_within more text (at + first.1) else [])
 
+-- all of them: each token but the end takes a byte
 unfoldable pub tokens_behind : List ℕ → ℕ → List Placed
 tokens_behind text behind = tokens_within (suc (length text)) text behind
 
+-- the tokens of a text
 unfoldable pub tokens_of : List ℕ → List Placed
 tokens_of text = tokens_behind text 0
 
