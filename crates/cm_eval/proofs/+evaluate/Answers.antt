@@ -1,6 +1,7 @@
 use Rattle.std.proofs.Common.{rules, ◌≡◌, ℕ, ◌+◌, ◌*◌, ◌≤◌, ◌+ℤ◌, Bool, true, false, not, List, [], ◌∷◌, ◌++◌, map, drop, take, length, Option, Some, None, IfSome, IsTrue, slice_get, refl, sym, ap, ◌∙◌, subst, arith, if◌then◌else◌, to_z, of_z, w64}
 use Rattle.std.proofs.lemmas.Grind.{common_steps}
 use denote.Param.Weighed.{most, at_most}
+use Rattle.cm_model.specs.declared.body.Expr.TheViews.{the_lemmas}
 use Rattle.cm_model.specs.declared.body.Expr.{Expr, size-Expr}
 use Rattle.cm_model.specs.declared.body.SetField.{SetField, size-SetField}
 use Rattle.cm_model.specs.declared.body.Expr.TheVariants as expr
@@ -56,7 +57,10 @@ pub cells::write-returns-in-None : goal.cells::write-returns-in-None
 cells::write-returns-in-None t c = record { puts = write_halts c.args.rules c.args.cell c.in-Some.declared.now c.in-Some-value.before.now c.args.state.now c.args.log.now c.touch.new.log c.in_ok-at.field-0 (ap (slice_get c.args.rules.states.now) (sym c.from.ensures) ∙ (got c.args.rules.states.now c.from.result c.in-Some.declared.now c.in-Some.ensures.lookup.0 c.in-Some.ensures.lookup.1)) (ap (λ k. look_up c.args.state.now (named c.args.cell.state k)) (sym c.as_ref.ensures.value) ∙ sym c.in-Some-value.ensures.value) (subst (λ n. Touches c.args.rules c.in-Some.declared.now c.in-Some-value.before.now n c.in_ok-at.field-0 c.args.log.now c.touch.new.log) c.in_ok-name.ensures.equal c.in_ok-at.ensures.touches) c.args.value c.in-None.is }
 
 pub expr::evaluate-evaluate_with-requires : goal.expr::evaluate-evaluate_with-requires
-expr::evaluate-evaluate_with-requires t c = (?, (c.requires.rules, (subst (λ o. IfSome o (λ v. IsTrue (is_limited v))) c.in-Some-2.is c.in_ok-v-in-With.ensures.limited, (sets_small c.args.e.now c.in-With.of c.in-With.sets c.as_slice-in-Some-2.result.now c.in-With.is c.as_slice-in-Some-2.ensures c.requires.reach, c.requires.locals))))
+expr::evaluate-evaluate_with-requires t c = 
+    let limited = subst (λ o. IfSome o (λ v. IsTrue (is_limited v))) c.in-Some-2.is c.in_ok-v-in-With.ensures.limited in
+    let small = sets_small c.args.e.now c.in-With.of c.in-With.sets c.as_slice-in-Some-2.result.now c.in-With.is c.as_slice-in-Some-2.ensures c.requires.reach in
+    search (rules, the_lemmas)
 
 pub expr::evaluate-returns-in-Num-clause-gives : goal.expr::evaluate-returns-in-Num-clause-gives
 expr::evaluate-returns-in-Num-clause-gives t c = means c.args.locals.now (ap (doing_of c.args.rules) c.in-Num.is ∙ node_num c.args.rules c.in-Num.n) (answers (ap (λ n. Some (operand.Number n)) (wide_number c.in-Num.n (reach_number c.in-Num.n (subst (λ e. reach_of e ≤ 65) c.in-Num.is c.requires.reach)))) (gives (λ k. k (operand.Number c.in-Num.n)) (operand.Number c.in-Num.n) (λ k. refl)))
@@ -197,7 +201,9 @@ pub expr::evaluate_read-returns-in-None-clause-gives : goal.expr::evaluate_read-
 expr::evaluate_read-returns-in-None-clause-gives t c = halt (λ cell k. Reads cell (λ v. k (operand.Plain v))) c.in_ok-cell.ensures.gives c.in-None.is
 
 pub expr::evaluate_sets-evaluate_value-requires : goal.expr::evaluate_sets-evaluate_value-requires
-expr::evaluate_sets-evaluate_value-requires t c = (?, (c.requires.rules, (item_within (λ s. reach_of s.value) c.args.sets.now c.loop-set.set-index 65 c.set-item.result c.loop-set-test.true c.set-item.is c.requires.reach, c.requires.locals)))
+expr::evaluate_sets-evaluate_value-requires t c = 
+    let small = item_within (λ s. reach_of s.value) c.args.sets.now c.loop-set.set-index 65 c.set-item.result c.loop-set-test.true c.set-item.is c.requires.reach in
+    search (rules, the_lemmas)
 
 pub expr::evaluate_sets-returns-in-None-with_field-clause-gives : goal.expr::evaluate_sets-returns-in-None-with_field-clause-gives
 expr::evaluate_sets-returns-in-None-with_field-clause-gives t c = ended (sets_of c.args.of (sets_in c.args.rules c.args.sets.now) c.args.locals.now) _ (λ k. valued (doing_of c.args.rules c.set-item.result.value) c.args.locals.now (λ w. given (with_field c.loop-set.record c.set-item.result.field w) (λ u. sets_of u (sets_in c.args.rules (drop (c.loop-set.set-index + 1) c.args.sets.now)) c.args.locals.now k))) (λ k. sym (ap (goes_on c.args.rules c.loop-set.state c.loop-set.log) (unroll {Y = Doing} (λ ss. sets_of c.loop-set.record (sets_in c.args.rules ss) c.args.locals.now k) c.args.sets.now c.loop-set.set-index c.set-item.result c.loop-set-test.true c.set-item.is)) ∙ c.loop-set.invariant.0 k) (stuck (λ w k. given (with_field c.loop-set.record c.set-item.result.field w) (λ u. sets_of u (sets_in c.args.rules (drop (c.loop-set.set-index + 1) c.args.sets.now)) c.args.locals.now k)) c.in-Some.w c.in_ok-w.ensures.gives c.in-Some.is (λ k. ap (λ o. given o (λ u. sets_of u (sets_in c.args.rules (drop (c.loop-set.set-index + 1) c.args.sets.now)) c.args.locals.now k)) (sym c.with_field.ensures.field ∙ c.in-None-with_field.is)))
