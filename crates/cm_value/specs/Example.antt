@@ -24,5 +24,5 @@ node = record { name = codes "node"; fields =
     record { name = codes "place"; ty = ty.Rec 0 } ∷ record { name = codes "next"; ty = ty.Option (ty.Sort 0) }
     ∷ record { name = codes "shade"; ty = ty.Enum 1 } ∷ record { name = codes "owner"; ty = ty.Sort 1 } ∷ [] }
 
-abbrev pub example : Tables
+unfoldable pub example : Tables
 example = tables (codes "K" ∷ codes "L" ∷ []) example_ints example_enums (point ∷ node ∷ []) [] [] []
