@@ -6,6 +6,7 @@ use cm_model::{List, Model, NoMemory, Ty};
 use example::example_model;
 use made::{NODE, POINT, node, point, some};
 use std::alloc::Global;
+use std::process::Abort;
 use std::test::Fail;
 
 /// The model of the example, of which a test knows nothing more.
@@ -16,6 +17,22 @@ fn a_model(alloc: Global) -> Result<Model, NoMemory> {
 /// What `member` answers.
 fn is_in(model: &Model, ty: &Ty, v: &Value) -> bool {
     member(model, ty, v)
+}
+
+fn is_element(model: &Model, sort: u16, n: u64) -> bool {
+    is_in(model, &Ty::Sort(sort), &Value::Elem(n))
+}
+
+fn is_number(model: &Model, int: u16, n: i64) -> bool {
+    is_in(model, &Ty::Int(int), &Value::Int(n))
+}
+
+fn is_variant(model: &Model, ty: u16, n: u16) -> bool {
+    is_in(model, &Ty::Enum(ty), &Value::Tag(n))
+}
+
+fn is_empty_record(alloc: Global, model: &Model, rec: u16) -> bool {
+    is_in(model, &Ty::Rec(rec), &Value::Rec(List::new(alloc)))
 }
 
 fn is_point(alloc: Global, model: &Model, at: u64, size: i64) -> Result<bool, NoMemory> {
@@ -47,40 +64,38 @@ fn is_short_point(alloc: Global, model: &Model) -> Result<bool, NoMemory> {
 fn a_value_is_one_of_its_type(rt: HostRuntime) -> Result<(), Fail> {
     let alloc = rt.alloc();
     let model = a_model(alloc)?;
-    assert!(rt; is_in(&model, &Ty::Sort(1), &Value::Elem(18446744073709551615)));
-    assert!(rt; is_in(&model, &Ty::Int(0), &Value::Int(2)));
-    assert!(rt; is_in(&model, &Ty::Int(0), &Value::Int(5)));
-    assert!(rt; is_in(&model, &Ty::Enum(1), &Value::Tag(2)));
-    assert!(rt; is_point(alloc, &model, 7, 3)?);
-    assert!(rt; is_node(alloc, &model, 3, 1)?);
-    assert!(rt; is_some_variant(alloc, &model, 1)?);
+    one_of_its_type(&rt, &model);
+    none_of_a_type(&rt, &model);
+    parts_of_their_types(&rt, alloc, &model)?;
     Ok(())
 }
 
-#[test]
-fn other_values_are_none_of_a_type(rt: HostRuntime) -> Result<(), Fail> {
-    let alloc = rt.alloc();
-    let model = a_model(alloc)?;
-    // Out of range, past the last variant, of another form.
-    assert!(rt; !is_in(&model, &Ty::Int(0), &Value::Int(6)));
-    assert!(rt; !is_in(&model, &Ty::Int(0), &Value::Int(1)));
-    assert!(rt; !is_in(&model, &Ty::Enum(1), &Value::Tag(3)));
-    assert!(rt; !is_in(&model, &Ty::Sort(0), &Value::Tag(0)));
-    // A payload past the last variant; a field too few; a field out of range; a variant past the last.
-    assert!(rt; !is_some_variant(alloc, &model, 2)?);
-    assert!(rt; !is_short_point(alloc, &model)?);
-    assert!(rt; !is_point(alloc, &model, 0, 6)?);
-    assert!(rt; !is_node(alloc, &model, 3, 3)?);
-    Ok(())
+fn one_of_its_type(rt: &impl Abort, model: &Model) {
+    assert!(rt; is_element(model, 1, 18446744073709551615));
+    assert!(rt; is_number(model, 0, 2));
+    assert!(rt; is_number(model, 0, 5));
+    assert!(rt; is_variant(model, 1, 2));
 }
 
-#[test]
-fn no_value_is_of_a_type_not_declared(rt: HostRuntime) -> Result<(), Fail> {
-    let alloc = rt.alloc();
-    let model = a_model(alloc)?;
-    assert!(rt; !is_in(&model, &Ty::Sort(2), &Value::Elem(0)));
-    assert!(rt; !is_in(&model, &Ty::Int(1), &Value::Int(2)));
-    assert!(rt; !is_in(&model, &Ty::Enum(65535), &Value::Tag(0)));
-    assert!(rt; !is_in(&model, &Ty::Rec(2), &Value::Rec(List::new(alloc))));
+/// Out of range, past the last variant, of another form, of a type that isn't declared.
+fn none_of_a_type(rt: &impl Abort, model: &Model) {
+    assert!(rt; !is_number(model, 0, 6));
+    assert!(rt; !is_number(model, 0, 1));
+    assert!(rt; !is_variant(model, 1, 3));
+    assert!(rt; !is_in(model, &Ty::Sort(0), &Value::Tag(0)));
+    assert!(rt; !is_element(model, 2, 0));
+    assert!(rt; !is_number(model, 1, 2));
+    assert!(rt; !is_variant(model, 65535, 0));
+}
+
+fn parts_of_their_types(rt: &impl Abort, alloc: Global, model: &Model) -> Result<(), NoMemory> {
+    assert!(rt; is_point(alloc, model, 7, 3)?);
+    assert!(rt; !is_point(alloc, model, 0, 6)?);
+    assert!(rt; is_node(alloc, model, 3, 1)?);
+    assert!(rt; !is_node(alloc, model, 3, 3)?);
+    assert!(rt; is_some_variant(alloc, model, 1)?);
+    assert!(rt; !is_some_variant(alloc, model, 2)?);
+    assert!(rt; !is_short_point(alloc, model)?);
+    assert!(rt; !is_empty_record(alloc, model, 2));
     Ok(())
 }
