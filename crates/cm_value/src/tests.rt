@@ -1,6 +1,10 @@
 mod example;
 mod made;
 
+ghost use Rattle.std.specs.Prelude.{◌≡◌};
+ghost use Rattle.cm_model.specs.Types.{IsType};
+ghost use Rattle.cm_value.specs.Example.{example};
+
 use super::*;
 use cm_model::{List, Model, NoMemory, Ty};
 use example::example_model;
@@ -97,5 +101,103 @@ fn parts_of_their_types(rt: &impl Abort, alloc: Global, model: &Model) -> Result
     assert!(rt; !is_some_variant(alloc, model, 2)?);
     assert!(rt; !is_short_point(alloc, model)?);
     assert!(rt; !is_empty_record(alloc, model, 2));
+    Ok(())
+}
+
+#[test]
+fn values_are_compared_whole(rt: HostRuntime) -> Result<(), Fail> {
+    forms_differ(&rt);
+    parts_differ(&rt, rt.alloc())?;
+    lengths_differ(&rt, rt.alloc())?;
+    Ok(())
+}
+
+/// Other forms with the same number.
+fn forms_differ(rt: &impl Abort) {
+    assert!(rt; same(&Value::Elem(3), &Value::Elem(3)));
+    assert!(rt; !same(&Value::Elem(3), &Value::Elem(4)));
+    assert!(rt; !same(&Value::Elem(0), &Value::Tag(0)));
+    assert!(rt; !same(&Value::Int(0), &Value::Elem(0)));
+    assert!(rt; same(&Value::None, &Value::None));
+}
+
+/// Whether a value equals its copy and differs from the other one.
+fn is_apart(alloc: Global, v: Value, other: Value) -> Result<bool, NoMemory> {
+    let copy = copy_value(alloc, &v)?;
+    Ok(same(&v, &copy) && !same(&v, &other) && !same(&other, &v))
+}
+
+fn parts_differ(rt: &impl Abort, alloc: Global) -> Result<(), NoMemory> {
+    // A size, a next element, a shade; a payload.
+    assert!(rt; is_apart(alloc, node(alloc, 7, 3, 9, 1)?, node(alloc, 7, 4, 9, 1)?)?);
+    assert!(rt; is_apart(alloc, node(alloc, 7, 3, 9, 1)?, node(alloc, 7, 3, 8, 1)?)?);
+    assert!(rt; is_apart(alloc, node(alloc, 7, 3, 9, 1)?, node(alloc, 7, 3, 9, 2)?)?);
+    assert!(rt; is_apart(alloc, some(alloc, Value::Elem(9))?, some(alloc, Value::Elem(8))?)?);
+    Ok(())
+}
+
+fn lengths_differ(rt: &impl Abort, alloc: Global) -> Result<(), NoMemory> {
+    assert!(rt; is_apart(alloc, point(alloc, 7, 3)?, Value::Rec(List::new(alloc)))?);
+    assert!(rt; is_apart(alloc, point(alloc, 7, 3)?, made::single(alloc, 7)?)?);
+    assert!(rt; is_apart(alloc, some(alloc, Value::None)?, Value::None)?);
+    Ok(())
+}
+
+/// Whether a value of a type becomes this one where #0 and #1 of the first sort are exchanged.
+fn becomes(alloc: Global, model: &Model, ty: Ty, v: Value, wanted: Value) -> Result<bool, NoMemory> {
+    if !member(model, &ty, &v) {
+        return Ok(false);
+    }
+    let by = Swap {
+        sort: 0,
+        x: 0,
+        y: 1,
+    };
+    let value = relabel(alloc, model, &ty, &v, &by)?;
+    Ok(same(&value, &wanted))
+}
+
+#[test]
+fn an_exchange_goes_wherever_the_sort_stands(rt: HostRuntime) -> Result<(), Fail> {
+    let alloc = rt.alloc();
+    let model = a_model(alloc)?;
+    elements_are_exchanged(&rt, alloc, &model)?;
+    Ok(())
+}
+
+fn elements_are_exchanged(rt: &impl Abort, alloc: Global, model: &Model) -> Result<(), NoMemory> {
+    let of_sort = |n: u64, wanted: u64| becomes(alloc, model, Ty::Sort(0), Value::Elem(n), Value::Elem(wanted));
+    assert!(rt; of_sort(0, 1)?);
+    assert!(rt; of_sort(1, 0)?);
+    assert!(rt; of_sort(2, 2)?);
+    // Another sort; in a record of a record and in an option, where the owner is of another sort.
+    assert!(rt; becomes(alloc, model, Ty::Sort(1), Value::Elem(0), Value::Elem(0))?);
+    assert!(rt; becomes(alloc, model, Ty::Rec(NODE), node(alloc, 0, 3, 1, 1)?, node(alloc, 1, 3, 0, 1)?)?);
+    Ok(())
+}
+
+/// Whether this is the least value of a type.
+fn is_least(alloc: Global, model: &Model, ty: Ty, wanted: Value) -> Result<bool, NoMemory>
+    requires { IsType model.now ty }
+{
+    let value = least(alloc, model, &ty)?;
+    Ok(same(&value, &wanted))
+}
+
+#[test]
+fn least_values_by_each_form_of_type(rt: HostRuntime) -> Result<(), Fail> {
+    let alloc = rt.alloc();
+    let model = example_model(alloc)?;
+    least_values(&rt, alloc, &model)?;
+    Ok(())
+}
+
+fn least_values(rt: &impl Abort, alloc: Global, model: &Model) -> Result<(), NoMemory>
+    requires { model.now ≡ example }
+{
+    assert!(rt; is_least(alloc, model, Ty::Sort(1), Value::Elem(0))?);
+    assert!(rt; is_least(alloc, model, Ty::Int(0), Value::Int(2))?);
+    assert!(rt; is_least(alloc, model, Ty::Enum(1), Value::Tag(0))?);
+    assert!(rt; is_least(alloc, model, Ty::Rec(NODE), made::least_node(alloc)?)?);
     Ok(())
 }

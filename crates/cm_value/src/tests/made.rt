@@ -34,3 +34,20 @@ pub fn node(alloc: Global, at: u64, size: i64, next: u64, shade: u16) -> Result<
     parts.push(Value::Elem(1))?;
     Ok(Value::Rec(parts))
 }
+
+/// A record with one element.
+pub fn single(alloc: Global, n: u64) -> Result<Value, NoMemory> {
+    let mut parts = List::new(alloc);
+    parts.push(Value::Elem(n))?;
+    Ok(Value::Rec(parts))
+}
+
+/// A node whose place is #0 of size 2, without a next one, of the first shade, owned by #0.
+pub fn least_node(alloc: Global) -> Result<Value, NoMemory> {
+    let mut parts = List::new(alloc);
+    parts.push(point(alloc, 0, 2)?)?;
+    parts.push(Value::None)?;
+    parts.push(Value::Tag(0))?;
+    parts.push(Value::Elem(0))?;
+    Ok(Value::Rec(parts))
+}
