@@ -55,5 +55,5 @@ module _ (t : Tables) (typed : IsWellTyped t) where
   field_before r i d p at field =
       let whole = each_at (is_record t) 0 t.records r r d typed.fields at (omega arith) in
       let types = (both (list_all (λ q. is_type_before t r q.ty && is_type_in_use t q.ty) d.fields) (are_distinct (part_names d.fields) && list_all is_name (part_names d.fields))
-          (both (leb 1 (length d.fields)) _ whole).1).0 in
+      (both (leb 1 (length d.fields)) _ whole).1).0 in
       (both (is_type_before t r p.ty) (is_type_in_use t p.ty) (all_at (λ q. is_type_before t r q.ty && is_type_in_use t q.ty) d.fields i p types field)).0

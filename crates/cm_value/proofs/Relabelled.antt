@@ -73,7 +73,7 @@ module _ (t : Tables) (by : Swap) where
       (λ n o. ap (again o) (relabel-int o n) ∙ relabel-int o n)
       (λ n o. ap (again o) (relabel-tag o n) ∙ relabel-tag o n)
       (λ vs back o. ap (again o) (relabel-rec o vs) ∙ relabel-rec o (each_relabelled (map (relabel_of t by) vs) (types_of_fields t o))
-          ∙ ap value.Rec (all_back vs (types_of_fields t o) back))
+      ∙ ap value.Rec (all_back vs (types_of_fields t o) back))
       (λ o. ap (again o) (relabel-none o) ∙ relabel-none o)
       (λ v back o. ap (again o) (relabel-some o v) ∙ relabel-some o (relabel_of t by v (type_of_payload o)) ∙ ap value.Some (back (type_of_payload o)))
 
@@ -117,13 +117,13 @@ module _ (t : Tables) (by : Swap) where
       (λ n o u. ap (is_value_of t u) (relabel-int o n))
       (λ n o u. ap (is_value_of t u) (relabel-tag o n))
       (λ vs alike o u. ap (is_value_of t u) (relabel-rec o vs) ∙ member-rec t u (each_relabelled (map (relabel_of t by) vs) (types_of_fields t o))
-          ∙ same_record (map (member_of t) (each_relabelled (map (relabel_of t by) vs) (types_of_fields t o))) (map (member_of t) vs)
-          (λ us. all_alike vs (types_of_fields t o) us alike) (out-Ty u)
-          ∙ sym (member-rec t u vs))
+      ∙ same_record (map (member_of t) (each_relabelled (map (relabel_of t by) vs) (types_of_fields t o))) (map (member_of t) vs)
+      (λ us. all_alike vs (types_of_fields t o) us alike) (out-Ty u)
+      ∙ sym (member-rec t u vs))
       (λ o u. ap (is_value_of t u) (relabel-none o))
       (λ v alike o u. ap (is_value_of t u) (relabel-some o v) ∙ member-some t u (relabel_of t by v (type_of_payload o))
-          ∙ same_some (member_of t (relabel_of t by v (type_of_payload o))) (member_of t v) (alike (type_of_payload o)) (out-Ty u)
-          ∙ sym (member-some t u v))
+      ∙ same_some (member_of t (relabel_of t by v (type_of_payload o))) (member_of t v) (alike (type_of_payload o)) (out-Ty u)
+      ∙ sym (member-some t u v))
 
   -- a value in which neither element stands stays as it is
   abbrev neither : Value → Option Ty → Type 0

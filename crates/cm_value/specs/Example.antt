@@ -20,9 +20,12 @@ abbrev pub point : RecDecl
 point = record { name = codes "point"; fields = record { name = codes "at"; ty = ty.Sort 0 } ∷ record { name = codes "size"; ty = ty.Int 0 } ∷ [] }
 
 abbrev pub node : RecDecl
-node = record { name = codes "node"; fields =
-    record { name = codes "place"; ty = ty.Rec 0 } ∷ record { name = codes "next"; ty = ty.Option (ty.Sort 0) }
-    ∷ record { name = codes "shade"; ty = ty.Enum 1 } ∷ record { name = codes "owner"; ty = ty.Sort 1 } ∷ [] }
+node = record {
+  name = codes "node";
+  fields =
+      record { name = codes "place"; ty = ty.Rec 0 } ∷ record { name = codes "next"; ty = ty.Option (ty.Sort 0) }
+      ∷ record { name = codes "shade"; ty = ty.Enum 1 } ∷ record { name = codes "owner"; ty = ty.Sort 1 } ∷ [];
+}
 
 unfoldable pub example : Tables
 example = tables (codes "K" ∷ codes "L" ∷ []) example_ints example_enums (point ∷ node ∷ []) [] [] []

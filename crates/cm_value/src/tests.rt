@@ -1,12 +1,17 @@
 mod example;
 mod made;
 
-ghost use Rattle.std.specs.Prelude.{◌≡◌};
+ghost use Rattle.std.specs.Prelude.{◌≡◌, false, pos, [], ◌∷◌};
 ghost use Rattle.cm_model.specs.Types.{IsType};
+ghost use Rattle.cm_model.specs.declared.ty.Ty.TheVariants as ty;
+ghost use Rattle.cm_value.specs.declared.value.Value.TheVariants as value;
 ghost use Rattle.cm_value.specs.Example.{example};
+ghost use Rattle.cm_value.specs.Membership.{is_value_of, IsValueOf};
+ghost use Rattle.cm_value.specs.Least.{least_of};
+ghost use Rattle.cm_value.specs.Relabelling.{relabelled};
 
 use super::*;
-use cm_model::{List, Model, NoMemory, Ty};
+use cm_model::{Boxed, List, Model, NoMemory, Ty};
 use example::example_model;
 use made::{NODE, POINT, node, point, some};
 use std::alloc::Global;
@@ -132,7 +137,13 @@ fn parts_differ(rt: &impl Abort, alloc: Global) -> Result<(), NoMemory> {
     assert!(rt; is_apart(alloc, node(alloc, 7, 3, 9, 1)?, node(alloc, 7, 4, 9, 1)?)?);
     assert!(rt; is_apart(alloc, node(alloc, 7, 3, 9, 1)?, node(alloc, 7, 3, 8, 1)?)?);
     assert!(rt; is_apart(alloc, node(alloc, 7, 3, 9, 1)?, node(alloc, 7, 3, 9, 2)?)?);
-    assert!(rt; is_apart(alloc, some(alloc, Value::Elem(9))?, some(alloc, Value::Elem(8))?)?);
+    assert!(rt;
+        is_apart(
+            alloc,
+            some(alloc, Value::Elem(9))?,
+            some(alloc, Value::Elem(8))?
+        )?
+    );
     Ok(())
 }
 
@@ -144,7 +155,13 @@ fn lengths_differ(rt: &impl Abort, alloc: Global) -> Result<(), NoMemory> {
 }
 
 /// Whether a value of a type becomes this one where #0 and #1 of the first sort are exchanged.
-fn becomes(alloc: Global, model: &Model, ty: Ty, v: Value, wanted: Value) -> Result<bool, NoMemory> {
+fn becomes(
+    alloc: Global,
+    model: &Model,
+    ty: Ty,
+    v: Value,
+    wanted: Value,
+) -> Result<bool, NoMemory> {
     if !member(model, &ty, &v) {
         return Ok(false);
     }
@@ -166,13 +183,27 @@ fn an_exchange_goes_wherever_the_sort_stands(rt: HostRuntime) -> Result<(), Fail
 }
 
 fn elements_are_exchanged(rt: &impl Abort, alloc: Global, model: &Model) -> Result<(), NoMemory> {
-    let of_sort = |n: u64, wanted: u64| becomes(alloc, model, Ty::Sort(0), Value::Elem(n), Value::Elem(wanted));
+    let of_sort = |n: u64, wanted: u64| becomes(
+        alloc,
+        model,
+        Ty::Sort(0),
+        Value::Elem(n),
+        Value::Elem(wanted),
+    );
     assert!(rt; of_sort(0, 1)?);
     assert!(rt; of_sort(1, 0)?);
     assert!(rt; of_sort(2, 2)?);
     // Another sort; in a record of a record and in an option, where the owner is of another sort.
     assert!(rt; becomes(alloc, model, Ty::Sort(1), Value::Elem(0), Value::Elem(0))?);
-    assert!(rt; becomes(alloc, model, Ty::Rec(NODE), node(alloc, 0, 3, 1, 1)?, node(alloc, 1, 3, 0, 1)?)?);
+    assert!(rt;
+        becomes(
+            alloc,
+            model,
+            Ty::Rec(NODE),
+            node(alloc, 0, 3, 1, 1)?,
+            node(alloc, 1, 3, 0, 1)?
+        )?
+    );
     Ok(())
 }
 
@@ -199,5 +230,40 @@ fn least_values(rt: &impl Abort, alloc: Global, model: &Model) -> Result<(), NoM
     assert!(rt; is_least(alloc, model, Ty::Int(0), Value::Int(2))?);
     assert!(rt; is_least(alloc, model, Ty::Enum(1), Value::Tag(0))?);
     assert!(rt; is_least(alloc, model, Ty::Rec(NODE), made::least_node(alloc)?)?);
+    assert!(rt; is_none_the_least(alloc, model)?);
     Ok(())
+}
+
+/// Whether none is the least value of the option of a point.
+fn is_none_the_least(alloc: Global, model: &Model) -> Result<bool, NoMemory>
+    requires { model.now ≡ example }
+{
+    let payload = Boxed::new(alloc, Ty::Rec(POINT))?;
+    let answer = is_least(alloc, model, Ty::Option(payload), Value::None)?;
+    Ok(answer)
+}
+
+fn example_of_a_least_value()
+    ensures { least_of example (ty.Rec 1) ≡ value.Rec (value.Rec (value.Elem 0 ∷ value.Int (pos 2) ∷ []) ∷ value.None ∷ value.Tag 0 ∷ value.Elem 0 ∷ []) }
+{}
+
+fn example_of_membership()
+    ensures point { IsValueOf example (ty.Rec 0) (value.Rec (value.Elem 0 ∷ value.Int (pos 5) ∷ [])) }
+    ensures out_of_range { is_value_of example (ty.Rec 0) (value.Rec (value.Elem 0 ∷ value.Int (pos 6) ∷ [])) ≡ false }
+    ensures too_few { is_value_of example (ty.Rec 0) (value.Rec (value.Elem 0 ∷ [])) ≡ false }
+{}
+
+// #0 becomes #1 in the place, and #1 becomes #0 in the next one; the owner is of another sort.
+fn example_of_an_exchange()
+    ensures element { relabelled example (record { sort = 0; x = 0; y = 1 }) (ty.Sort 0) (value.Elem 0) ≡ value.Elem 1 }
+    ensures node { relabelled example (record { sort = 0; x = 0; y = 1 }) (ty.Rec 1)
+        (value.Rec (value.Rec (value.Elem 0 ∷ value.Int (pos 2) ∷ []) ∷ value.Some (value.Elem 1) ∷ value.Tag 1 ∷ value.Elem 1 ∷ []))
+        ≡ value.Rec (value.Rec (value.Elem 1 ∷ value.Int (pos 2) ∷ []) ∷ value.Some (value.Elem 0) ∷ value.Tag 1 ∷ value.Elem 1 ∷ []) }
+{}
+
+#[test]
+fn the_definitions_compute() {
+    example_of_a_least_value();
+    example_of_membership();
+    example_of_an_exchange();
 }

@@ -4,6 +4,7 @@ use std::alloc::Global;
 
 /// The records of the example by their numbers.
 pub const POINT: u16 = 0;
+
 pub const NODE: u16 = 1;
 
 /// The type of an option of a type.
