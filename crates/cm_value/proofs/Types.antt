@@ -3,7 +3,7 @@ use Rattle.std.proofs.Common.{◌≡◌, ℕ, Bool, sym, ap, ◌∙◌}
 use Rattle.cm_model.specs.declared.ty.Ty.{Ty, out-Ty}
 use Rattle.cm_model.specs.declared.ty.Ty.TheVariants as ty
 use Rattle.cm_model.specs.declared.ty.Ty.TheVariants.{rolls-Sort, rolls-Int, rolls-Enum, rolls-Rec, rolls-Option}
-use Rattle.cm_model.specs.declared.ty.Ty.TheViews.{roll-Ty, out-roll-Ty, roll-out-Ty}
+use Rattle.cm_model.specs.declared.ty.Ty.TheViews.{out-roll-Ty, roll-out-Ty}
 use Rattle.cm_model.specs.declared.ty.Ty.TheOpen.{Ty-F}
 use Rattle.cm_model.specs.declared.ty.Ty.TheFolds.{fold-Ty, fold-roll-Ty, map-Ty}
 use Rattle.cm_model.specs.Tables.{Tables}

@@ -1,8 +1,7 @@
 -- A small model, for examples: two sorts, an integer type from 2 to 5, an enum of three variants, a record
 -- of an element and a number, and a record that holds that one, an option, a variant and an element.
-use Rattle.std.specs.Prelude.{ℤ, pos, List, [], ◌∷◌, codes}
+use Rattle.std.specs.Prelude.{pos, List, [], ◌∷◌, codes}
 use Rattle.cm_model.specs.Tables.{Tables, tables}
-use Rattle.cm_model.specs.declared.ty.Ty.{Ty}
 use Rattle.cm_model.specs.declared.ty.Ty.TheVariants as ty
 use Rattle.cm_model.specs.declared.ty.IntDecl.{IntDecl}
 use Rattle.cm_model.specs.declared.ty.EnumDecl.{EnumDecl}

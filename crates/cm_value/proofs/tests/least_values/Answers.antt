@@ -1,9 +1,9 @@
 -- The types are those of the example.
-use Rattle.std.proofs.Common.{ap, sym, subst}
+use Rattle.std.proofs.Common.{sym, subst}
 use Rattle.cm_model.specs.Types.{IsType}
 use Rattle.cm_model.specs.Tables.{Tables}
 use Rattle.cm_model.specs.declared.ty.Ty.TheVariants as ty
-use Rattle.cm_value.proofs.ExampleLemmas.{sort_type, int_type, enum_type, record_type, option_type}
+use Rattle.cm_value.proofs.ExampleLemmas.{sort_type, int_type, enum_type, record_type}
 use Rattle.cm_value.proofs.tests.least_values.Goals as goal
 
 pub is_least-requires : goal.is_least-requires
