@@ -1,4 +1,4 @@
-ghost use Rattle.std.specs.Prelude.{◌≡◌, ◌↔◌, IsTrue, map, slice_get, length};
+ghost use Rattle.std.specs.Prelude.{◌≡◌, ◌↔◌, IsTrue, map, slice_get};
 ghost use Rattle.cm_value.specs.Membership.{is_value_of, IsValueOf, member_of, are_members, has_fields, is_within, has_variant};
 
 use crate::Value;
