@@ -2,3 +2,13 @@ pub mod Folds
 pub mod Same
 pub mod Places
 pub mod Limits
+pub mod Fields
+pub mod Declared
+pub mod Measures
+pub mod Steps
+pub mod Nodes
+pub mod Reaches
+pub mod Near
+pub mod Touching
+pub mod Natural
+pub mod Functions

@@ -152,25 +152,63 @@ abbrev pub sets_of : Value → List SetMeaning → List Value → (Value → Doi
 sets_of v [] locals k = k v
 sets_of v (m ∷ ms) locals k = valued m.1 locals (λ w. given (with_field v m.0 w) (λ u. sets_of u ms locals k))
 
+abbrev pub local_of : ℕ → Meaning
+local_of i locals k = given (slice_get locals i) (λ v. k (operand.Plain v))
+
+abbrev pub read_of : ℕ → Option Meaning → Meaning
+read_of s key locals k = cell_of s key locals (λ c. Reads c (λ v. k (operand.Plain v)))
+
+abbrev pub fields_of : Meaning → List ℕ → Meaning
+fields_of m path locals k = valued m locals (λ v. given (value_at (Some v) path) (λ w. k (operand.Plain w)))
+
+abbrev pub replaced_of : Value → List SetMeaning → Meaning
+replaced_of v sets locals k = sets_of v sets locals (λ w. k (operand.Plain w))
+
+abbrev pub with_of : Meaning → List SetMeaning → Meaning
+with_of m sets locals k = valued m locals (λ v. replaced_of v sets locals k)
+
+abbrev pub make_of : List Meaning → Meaning
+make_of parts locals k = values_of [] parts locals (λ vs. k (operand.Plain (value.Rec vs)))
+
+abbrev pub some_of : Meaning → Meaning
+some_of m locals k = valued m locals (λ v. k (operand.Plain (value.Some v)))
+
+abbrev pub shift_of : Meaning → ℤ → Meaning
+shift_of m by locals k = numbered m locals (λ n. k (operand.Number (n +ℤ by)))
+
+-- a number as one of an integer type: blocked where it is none
+abbrev pub into_type : Option IntDecl → ℤ → (Operand → Doing) → Doing
+into_type d n k = given d (λ t. Decides (ranged t n) (λ r. if r == 1 then k (operand.Plain (value.Int n)) else Blocks))
+
+abbrev pub into_of : Option IntDecl → Meaning → Meaning
+into_of d m locals k = numbered m locals (λ n. into_type d n k)
+
+abbrev pub compare_of : Op → Meaning → Meaning → Meaning
+compare_of o left right locals k = left locals (λ x. right locals (λ y. compares_by o x y (λ s. k (flag s))))
+
+abbrev pub not_of : Meaning → Meaning
+not_of m locals k = inspected m locals (λ s. k (flag (not s)))
+
+abbrev pub apply_of : Called → List Meaning → Meaning
+apply_of f args locals k = values_of [] args locals (λ vs. f vs (λ v. k (operand.Plain v)))
+
 abbrev pub meaning_step : List IntDecl → List Called → Expr-F Meaning SetMeaning → Meaning
 meaning_step ints funs (Expr-F.Num n) locals k = k (operand.Number n)
 meaning_step ints funs (Expr-F.Tag e i) locals k = k (operand.Plain (value.Tag i))
-meaning_step ints funs (Expr-F.Local i) locals k = given (slice_get locals i) (λ v. k (operand.Plain v))
-meaning_step ints funs (Expr-F.Cell s key) locals k = cell_of s key locals (λ c. Reads c (λ v. k (operand.Plain v)))
-meaning_step ints funs (Expr-F.Fields e path) locals k = valued e locals (λ v. given (value_at (Some v) path) (λ w. k (operand.Plain w)))
-meaning_step ints funs (Expr-F.With e sets) locals k = valued e locals (λ v. sets_of v sets locals (λ w. k (operand.Plain w)))
-meaning_step ints funs (Expr-F.Make r parts) locals k = values_of [] parts locals (λ vs. k (operand.Plain (value.Rec vs)))
+meaning_step ints funs (Expr-F.Local i) locals k = local_of i locals k
+meaning_step ints funs (Expr-F.Cell s key) locals k = read_of s key locals k
+meaning_step ints funs (Expr-F.Fields e path) locals k = fields_of e path locals k
+meaning_step ints funs (Expr-F.With e sets) locals k = with_of e sets locals k
+meaning_step ints funs (Expr-F.Make r parts) locals k = make_of parts locals k
 meaning_step ints funs (Expr-F.NoneOf t) locals k = k (operand.Plain value.None)
-meaning_step ints funs (Expr-F.SomeOf e) locals k = valued e locals (λ v. k (operand.Plain (value.Some v)))
-meaning_step ints funs (Expr-F.Shift e by) locals k = numbered e locals (λ n. k (operand.Number (n +ℤ by)))
-meaning_step ints funs (Expr-F.Into i e) locals k =
-    numbered e locals (λ n. given (slice_get ints i) (λ d. Decides (ranged d n) (λ r. if r == 1 then k (operand.Plain (value.Int n)) else Blocks)))
-meaning_step ints funs (Expr-F.Compare o left right) locals k =
-    left locals (λ x. right locals (λ y. compares_by o x y (λ s. k (flag s))))
+meaning_step ints funs (Expr-F.SomeOf e) locals k = some_of e locals k
+meaning_step ints funs (Expr-F.Shift e by) locals k = shift_of e by locals k
+meaning_step ints funs (Expr-F.Into i e) locals k = into_of (slice_get ints i) e locals k
+meaning_step ints funs (Expr-F.Compare o left right) locals k = compare_of o left right locals k
 meaning_step ints funs (Expr-F.All es) locals k = all_of es locals (λ s. k (flag s))
 meaning_step ints funs (Expr-F.Any es) locals k = any_of es locals (λ s. k (flag s))
-meaning_step ints funs (Expr-F.Not e) locals k = inspected e locals (λ s. k (flag (not s)))
-meaning_step ints funs (Expr-F.Apply f args) locals k = values_of [] args locals (λ vs. fun_at funs f vs (λ v. k (operand.Plain v)))
+meaning_step ints funs (Expr-F.Not e) locals k = not_of e locals k
+meaning_step ints funs (Expr-F.Apply f args) locals k = apply_of (fun_at funs f) args locals k
 
 abbrev pub set_step : SetField-F Meaning SetMeaning → SetMeaning
 set_step x = (x.field, x.value)
@@ -191,21 +229,55 @@ abbrev pub key_meaning : List IntDecl → List Called → Option Expr → Option
 key_meaning ints funs None = None
 key_meaning ints funs (Some e) = Some (meaning_of ints funs e)
 
--- one of two blocks by an option, with its payload as one more local
-abbrev pub cases_of : List Turn → List Turn → Option Value → Turn
-cases_of left right o locals ret next =
-    Decides (presence o) (λ d. if d == 1 then given o (λ v. block_of right (locals ++ v ∷ []) ret (λ _. next locals)) else block_of left locals ret (λ _. next locals))
+-- a block whose locals end with it
+abbrev pub branch_of : List Turn → Turn
+branch_of ms locals ret next = block_of ms locals ret (λ _. next locals)
+
+-- the same with a payload as its first local
+abbrev pub some_branch_of : Value → List Turn → Turn
+some_branch_of v ms locals ret next = block_of ms (locals ++ v ∷ []) ret (λ _. next locals)
+
+-- an option is inspected; its payload, where it has one, is what is gone on with
+abbrev pub opens : Option (Option Value) → (Option Value → Doing) → Doing
+opens o k = given o (λ p. Decides (presence p) (λ d. if d == 1 then given p (λ v. k (Some v)) else k None))
+
+abbrev pub opened : Meaning → List Value → (Option Value → Doing) → Doing
+opened m locals k = valued m locals (λ v. opens (option_of v) k)
+
+abbrev pub case_branch : List Turn → List Turn → Option Value → Turn
+case_branch left right (Some v) = some_branch_of v right
+case_branch left right None = branch_of left
+
+abbrev pub let_of : Meaning → Turn
+let_of m locals ret next = valued m locals (λ v. next (locals ++ v ∷ []))
+
+-- the right side of an assignment, and the write
+abbrev pub write_of : CellName → Meaning → Turn
+write_of c m locals ret next = valued m locals (λ v. Writes c v (next locals))
+
+abbrev pub set_of : ℕ → Option Meaning → Meaning → Turn
+set_of s key m locals ret next = cell_of s key locals (λ c. write_of c m locals ret next)
+
+abbrev pub if_of : Meaning → List Turn → List Turn → Turn
+if_of m left right locals ret next =
+    inspected m locals (λ s. if s then branch_of left locals ret next else branch_of right locals ret next)
+
+abbrev pub case_of : Meaning → List Turn → List Turn → Turn
+case_of m left right locals ret next = opened m locals (λ o. case_branch left right o locals ret next)
+
+abbrev pub assume_of : Meaning → Turn
+assume_of m locals ret next = inspected m locals (λ s. if s then next locals else Blocks)
+
+abbrev pub return_of : Meaning → Turn
+return_of m locals ret next = valued m locals ret
 
 abbrev pub turn_step : List IntDecl → List Called → Stmt-F Turn → Turn
-turn_step ints funs (Stmt-F.Let e) locals ret next = valued (meaning_of ints funs e) locals (λ v. next (locals ++ v ∷ []))
-turn_step ints funs (Stmt-F.Set s key e) locals ret next =
-    cell_of s (key_meaning ints funs key) locals (λ c. valued (meaning_of ints funs e) locals (λ v. Writes c v (next locals)))
-turn_step ints funs (Stmt-F.If c left right) locals ret next =
-    inspected (meaning_of ints funs c) locals (λ s. if s then block_of left locals ret (λ _. next locals) else block_of right locals ret (λ _. next locals))
-turn_step ints funs (Stmt-F.Case e left right) locals ret next =
-    valued (meaning_of ints funs e) locals (λ v. given (option_of v) (λ o. cases_of left right o locals ret next))
-turn_step ints funs (Stmt-F.Assume c) locals ret next = inspected (meaning_of ints funs c) locals (λ s. if s then next locals else Blocks)
-turn_step ints funs (Stmt-F.Return e) locals ret next = valued (meaning_of ints funs e) locals ret
+turn_step ints funs (Stmt-F.Let e) locals ret next = let_of (meaning_of ints funs e) locals ret next
+turn_step ints funs (Stmt-F.Set s key e) locals ret next = set_of s (key_meaning ints funs key) (meaning_of ints funs e) locals ret next
+turn_step ints funs (Stmt-F.If c left right) locals ret next = if_of (meaning_of ints funs c) left right locals ret next
+turn_step ints funs (Stmt-F.Case e left right) locals ret next = case_of (meaning_of ints funs e) left right locals ret next
+turn_step ints funs (Stmt-F.Assume c) locals ret next = assume_of (meaning_of ints funs c) locals ret next
+turn_step ints funs (Stmt-F.Return e) locals ret next = return_of (meaning_of ints funs e) locals ret next
 
 abbrev pub turn_of : List IntDecl → List Called → Stmt → Turn
 turn_of ints funs = fold-Stmt Turn (turn_step ints funs)

@@ -7,3 +7,4 @@ pub mod Invariant
 pub mod Limits
 pub mod StoreCode
 pub mod Places
+pub mod Going

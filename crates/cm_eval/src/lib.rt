@@ -1,10 +1,16 @@
 //! The evaluator: what a call does with its arguments and a state, and what it logs.
 #![tactic(auto)]
 
+mod cells;
+mod compare;
+mod expr;
+mod flow;
 mod log;
 mod operand;
 mod outcome;
+mod rules;
 mod state;
+mod stmt;
 
 pub use log::{CellName, Log};
 pub use outcome::{Args, Outcome};

@@ -1,8 +1,9 @@
-ghost use Rattle.std.specs.Prelude.{◌≡◌, ◌<◌, ◌≤◌, ℕ, length, slice_get, Some, IfOk, OnOk, OnErr, IsTrue, option_copied, MatchOption, drop, List};
+ghost use Rattle.std.specs.Prelude.{◌≡◌, ◌<◌, ◌≤◌, ℕ, length, slice_get, Some, IfOk, IfSome, OnOk, OnErr, IsTrue, option_copied, MatchOption, drop, List};
 ghost use Rattle.cm_value.specs.declared.value.Value.{Value};
 ghost use Rattle.cm_eval.specs.Evaluation.{named};
 ghost use Rattle.cm_eval.specs.State.{Store, look_up, put, least_store, same_cell, same_value, exception_of};
-ghost use Rattle.cm_eval.specs.Limits.{is_limited};
+ghost use Rattle.cm_value.specs.Limits.{is_limited};
+ghost use Rattle.cm_eval.specs.Limits.{are_limited};
 ghost use Rattle.cm_eval.specs.Places.{Finds};
 
 use crate::CellName;
@@ -49,6 +50,25 @@ impl State {
             defaults,
             exceptions: List::new(alloc),
         })
+    }
+
+    // A state of no cells.
+    pub(crate) fn empty(alloc: Global) -> State {
+        State {
+            defaults: List::new(alloc),
+            exceptions: List::new(alloc),
+        }
+    }
+
+    // The value of a cell, if its state is there.
+    pub(crate) fn value(&self, state: u16, key: Option<&Value>) -> Option<&Value>
+        ensures value { option_copied result ≡ look_up self.now (named state (option_copied key.entry)) }
+        ensures limited { IfSome result (λ v. IsTrue (is_limited v.now)) }
+    {
+        match find(self.exceptions.as_slice(), state, key) {
+            Some(at) => Some(&self.exceptions.as_slice()[at].value),
+            None => self.defaults.get(usize::from(state)),
+        }
     }
 
     /// The value of a cell.
@@ -105,11 +125,14 @@ impl State {
 // The least value of each state.
 fn least_values(alloc: Global, model: &Model, states: &[StateDecl]) -> Result<Vals, NoMemory>
     requires { states.now ≡ model.now.states }
-    ensures { IfOk result (λ values. values ≡ (least_store model.now).defaults) }
+    ensures least { IfOk result (λ values. values ≡ (least_store model.now).defaults) }
+    ensures limited { IfOk result (λ values. IsTrue (are_limited values)) }
 {
+    model.well_typed();
     let mut values = List::new(alloc);
     for state in states {
-        values.push(least(alloc, model, &state.value)?)?;
+        let value = least(alloc, model, &state.value)?;
+        values.push(value)?;
     }
     Ok(values)
 }

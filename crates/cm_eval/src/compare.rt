@@ -1,0 +1,107 @@
+ghost use Rattle.std.specs.Prelude.{◌≡◌, IfOk, map, List, ℕ, Bool};
+ghost use Rattle.cm_value.specs.declared.value.Value.{Value};
+ghost use Rattle.cm_eval.specs.Comparison.{distinguished, ordered, fields_compared, comparison};
+ghost use Rattle.cm_eval.specs.State.{Touched};
+ghost use Rattle.cm_eval.specs.Run.{Trace, Blocked, Logs, Stopped, logged};
+ghost use Rattle.cm_eval.specs.Going.{Compares, ComparesAll, ComparesTags, ended_by};
+
+use cm_model::{List, NoMemory};
+use cm_value::Value;
+
+/// Compares two values by their type and logs each decision. `None` where they are of no one type.
+#[cycle(compare)]
+pub fn compare(left: &Value, right: &Value, steps: &mut List<u8>) -> Result<Option<bool>, NoMemory>
+    ensures compares { IfOk result (λ r. Compares left.now right.now r steps.old steps.new) }
+{
+    match (left, right) {
+        (Value::Elem(m), Value::Elem(n)) => {
+            steps.push(if m == n { 0 } else { 1 })?;
+            Ok(Some(m == n))
+        }
+        (Value::Int(m), Value::Int(n)) => {
+            let outcome = order(*m, *n);
+            steps.push(outcome)?;
+            Ok(Some(outcome == 1))
+        }
+        (Value::Tag(m), Value::Tag(n)) => {
+            let r = compare_tags(*m, *n, steps)?;
+            Ok(r)
+        }
+        (Value::Rec(ms), Value::Rec(ns)) => {
+            let r = compare_all(ms.as_slice(), ns.as_slice(), steps)?;
+            Ok(r)
+        }
+        (Value::None, Value::None) => {
+            steps.push(0)?;
+            steps.push(0)?;
+            Ok(Some(true))
+        }
+        (Value::None, Value::Some(_)) => {
+            steps.push(0)?;
+            steps.push(1)?;
+            Ok(Some(false))
+        }
+        (Value::Some(_), Value::None) => {
+            steps.push(1)?;
+            steps.push(0)?;
+            Ok(Some(false))
+        }
+        (Value::Some(m), Value::Some(n)) => {
+            steps.push(1)?;
+            steps.push(1)?;
+            let r = compare(m.get(), n.get(), steps)?;
+            Ok(r)
+        }
+        _ => Ok(None),
+    }
+}
+
+// Field by field, until one differs.
+#[cycle(compare)]
+fn compare_all(
+    left: &[Value],
+    right: &[Value],
+    steps: &mut List<u8>,
+) -> Result<Option<bool>, NoMemory>
+    ensures compares { IfOk result (λ r. ComparesAll left.now right.now r steps.old steps.new) }
+{
+    for i in 0..left.len() {
+        if i >= right.len() {
+            return Ok(None);
+        }
+        match compare(&left[i], &right[i], steps)? {
+            Some(true) => {}
+            Some(false) => return Ok(Some(false)),
+            None => return Ok(None),
+        }
+    }
+    if left.len() < right.len() {
+        return Ok(None);
+    }
+    Ok(Some(true))
+}
+
+// The variants of one enum, left and then right.
+fn compare_tags(left: u16, right: u16, steps: &mut List<u8>) -> Result<Option<bool>, NoMemory>
+    ensures compares { IfOk result (λ r. ComparesTags left right r steps.old steps.new) }
+{
+    if left >= 64 || right >= 64 {
+        return Ok(None);
+    }
+    steps.push(left as u8)?;
+    steps.push(right as u8)?;
+    Ok(Some(left == right))
+}
+
+/// 0 less, 1 equal, 2 greater.
+pub fn order(left: i64, right: i64) -> u8
+    ensures order { result ≡ ordered left right }
+{
+    if left < right {
+        0
+    } else if right < left {
+        2
+    } else {
+        1
+    }
+}

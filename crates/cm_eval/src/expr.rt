@@ -1,0 +1,576 @@
+ghost use Rattle.std.specs.Prelude.{◌≡◌, ◌≤◌, ◌+◌, ℕ, ℤ, Bool, IfOk, IfSome, IsTrue, List, [], map, max, option_copied, option_map, slice_get, Some};
+ghost use Rattle.cm_model.specs.Kinds.{is_number};
+ghost use Rattle.cm_model.specs.Weights.{greatest};
+ghost use Rattle.cm_model.specs.declared.body.Expr.{Expr};
+ghost use Rattle.cm_value.specs.declared.value.Value.{Value};
+ghost use Rattle.cm_value.specs.Limits.{is_limited};
+ghost use Rattle.cm_eval.specs.declared.operand.Operand.{Operand};
+ghost use Rattle.cm_eval.specs.declared.operand.Operand.TheVariants as operand;
+ghost use Rattle.cm_eval.specs.Evaluation.{replaced_of, Doing, valued, numbered, inspected, values_of, all_of, any_of, cell_of, fields_of, with_of, make_of, some_of, shift_of, into_of, compare_of, not_of, apply_of, read_of, fun_at, sets_of, key_meaning};
+ghost use Rattle.cm_eval.specs.Limits.{IsNear, are_limited, IsFitting, reach_of, exprs_reach, key_reach};
+ghost use Rattle.cm_eval.specs.Going.{Gives, AreFitting, doing_of, key_doing, funs_of, sets_in, sets_reach};
+
+use crate::cells::read;
+use crate::log::{CellName, Log};
+use crate::operand::{
+    Operand, as_flag, compare_by, convert, field, flag, inspect, number, sum, with_field,
+};
+use crate::rules::Rules;
+use crate::state::State;
+use crate::stmt::call_function;
+use cm_model::{Boxed, Expr, List, NoMemory, Op, SetField};
+use cm_value::{Vals, Value, copy_value};
+
+/// What an expression gives, or `None` where the run is blocked in it.
+#[cycle(evaluate)]
+pub fn evaluate(
+    rules: Rules,
+    e: &Expr,
+    locals: &[Value],
+    state: &mut State,
+    log: &mut Log,
+) -> Result<Option<Operand>, NoMemory>
+    requires rules { AreFitting rules }
+    requires reach { reach_of e.now ≤ 65 }
+    requires locals { IsTrue (are_limited locals.now) }
+    ensures gives { IfOk result (λ r. Gives rules.entry (doing_of rules.entry e.now locals.now) r state.old log.old state.new log.new) }
+    ensures fits { IfOk result (λ r. IfSome r (IsFitting (reach_of e.now))) }
+{
+    match e {
+        Expr::Num(n) => Ok(Some(Operand::Number(*n))),
+        Expr::Tag { ty: _, index } => Ok(Some(Operand::Plain(Value::Tag(*index)))),
+        Expr::Local(i) => {
+            let r = local(rules, *i, locals)?;
+            Ok(r)
+        }
+        Expr::Cell { state: s, key } => match key {
+            Some(key) => {
+                let r = evaluate_read(rules, *s, key.get(), locals, state, log)?;
+                Ok(r)
+            }
+            None => {
+                let r = read_cell(rules, *s, state, log)?;
+                Ok(r)
+            }
+        },
+        Expr::Fields { of, path } => {
+            let r = evaluate_fields(rules, of.get(), path.as_slice(), locals, state, log)?;
+            Ok(r)
+        }
+        Expr::With { of, sets } => match evaluate_value(rules, of.get(), locals, state, log)? {
+            Some(v) => {
+                let r = evaluate_with(rules, sets.as_slice(), v, locals, state, log)?;
+                Ok(r)
+            }
+            None => Ok(None),
+        },
+        Expr::Make { rec: _, parts } => {
+            let r = evaluate_make(rules, parts.as_slice(), locals, state, log)?;
+            Ok(r)
+        }
+        Expr::NoneOf(_) => Ok(Some(Operand::Plain(Value::None))),
+        Expr::SomeOf(of) => {
+            let r = evaluate_some(rules, of.get(), locals, state, log)?;
+            Ok(r)
+        }
+        Expr::Shift { of, by } => {
+            let r = evaluate_shift(rules, of.get(), *by, locals, state, log)?;
+            Ok(r)
+        }
+        Expr::Into { int, of } => {
+            let r = evaluate_into(rules, of.get(), *int, locals, state, log)?;
+            Ok(r)
+        }
+        Expr::Compare { op, left, right } => {
+            let r = evaluate_compare(rules, left.get(), right.get(), *op, locals, state, log)?;
+            Ok(r)
+        }
+        Expr::All(es) => {
+            let r = evaluate_all(rules, es.as_slice(), locals, state, log)?;
+            Ok(as_flag(r))
+        }
+        Expr::Any(es) => {
+            let r = evaluate_any(rules, es.as_slice(), locals, state, log)?;
+            Ok(as_flag(r))
+        }
+        Expr::Not(of) => {
+            let r = evaluate_not(rules, of.get(), locals, state, log)?;
+            Ok(r)
+        }
+        Expr::Apply { fun, args } => {
+            let r = evaluate_apply(rules, args.as_slice(), *fun, locals, state, log)?;
+            Ok(r)
+        }
+    }
+}
+
+// A local, if it is there.
+fn local(rules: Rules, i: u16, locals: &[Value]) -> Result<Option<Operand>, NoMemory>
+    requires locals { IsTrue (are_limited locals.now) }
+    ensures value { IfOk result (λ r. r ≡ option_map operand.Plain (slice_get locals.now i)) }
+    ensures fits { IfOk result (λ r. IfSome r (IsFitting 0)) }
+{
+    match locals.get(usize::from(i)) {
+        Some(value) => {
+            let value = copy_value(rules.alloc, value)?;
+            Ok(Some(Operand::Plain(value)))
+        }
+        None => Ok(None),
+    }
+}
+
+// A value.
+#[cycle(evaluate)]
+pub fn evaluate_value(
+    rules: Rules,
+    e: &Expr,
+    locals: &[Value],
+    state: &mut State,
+    log: &mut Log,
+) -> Result<Option<Value>, NoMemory>
+    requires rules { AreFitting rules }
+    requires reach { reach_of e.now ≤ 65 }
+    requires locals { IsTrue (are_limited locals.now) }
+    ensures gives { IfOk result (λ r. Gives rules.entry (valued (doing_of rules.entry e.now) locals.now) r state.old log.old state.new log.new) }
+    ensures limited { IfOk result (λ r. IfSome r (λ v. IsTrue (is_limited v))) }
+{
+    match evaluate(rules, e, locals, state, log)? {
+        Some(Operand::Plain(v)) => Ok(Some(v)),
+        Some(Operand::Number(_)) => Ok(None),
+        None => Ok(None),
+    }
+}
+
+// A number.
+#[cycle(evaluate)]
+fn evaluate_number(
+    rules: Rules,
+    e: &Expr,
+    locals: &[Value],
+    state: &mut State,
+    log: &mut Log,
+) -> Result<Option<i64>, NoMemory>
+    requires rules { AreFitting rules }
+    requires reach { reach_of e.now ≤ 65 }
+    requires locals { IsTrue (are_limited locals.now) }
+    ensures gives { IfOk result (λ r. Gives rules.entry (numbered (doing_of rules.entry e.now) locals.now) r state.old log.old state.new log.new) }
+    ensures near { IfOk result (λ r. IfSome r (IsNear (reach_of e.now))) }
+{
+    match evaluate(rules, e, locals, state, log)? {
+        Some(o) => Ok(number(&o)),
+        None => Ok(None),
+    }
+}
+
+// A bool that is inspected.
+#[cycle(evaluate)]
+pub fn evaluate_flag(
+    rules: Rules,
+    e: &Expr,
+    locals: &[Value],
+    state: &mut State,
+    log: &mut Log,
+) -> Result<Option<bool>, NoMemory>
+    requires rules { AreFitting rules }
+    requires reach { reach_of e.now ≤ 65 }
+    requires locals { IsTrue (are_limited locals.now) }
+    ensures gives { IfOk result (λ r. Gives rules.entry (inspected (doing_of rules.entry e.now) locals.now) r state.old log.old state.new log.new) }
+{
+    match evaluate(rules, e, locals, state, log)? {
+        Some(o) => {
+            let r = inspect(rules, &o, state, log)?;
+            Ok(r)
+        }
+        None => Ok(None),
+    }
+}
+
+// The cell of a map at a key.
+#[cycle(evaluate)]
+pub fn evaluate_cell(
+    rules: Rules,
+    s: u16,
+    e: &Expr,
+    locals: &[Value],
+    state: &mut State,
+    log: &mut Log,
+) -> Result<Option<CellName>, NoMemory>
+    requires rules { AreFitting rules }
+    requires reach { reach_of e.now ≤ 65 }
+    requires locals { IsTrue (are_limited locals.now) }
+    ensures gives { IfOk result (λ r. Gives rules.entry (cell_of s (Some (doing_of rules.entry e.now)) locals.now) r state.old log.old state.new log.new) }
+{
+    match evaluate_value(rules, e, locals, state, log)? {
+        Some(key) => Ok(Some(CellName {
+            state: s,
+            key: Some(key),
+        })),
+        None => Ok(None),
+    }
+}
+
+// A state that is one cell.
+#[cycle(evaluate)]
+fn read_cell(
+    rules: Rules,
+    s: u16,
+    state: &State,
+    log: &mut Log,
+) -> Result<Option<Operand>, NoMemory>
+    requires rules { AreFitting rules }
+    ensures gives { IfOk result (λ r. Gives rules.entry (read_of s None []) r state.now log.old state.now log.new) }
+    ensures fits { IfOk result (λ r. IfSome r (IsFitting 0)) }
+{
+    let cell = CellName {
+        state: s,
+        key: None,
+    };
+    match read(rules, cell, state, log)? {
+        Some(v) => Ok(Some(Operand::Plain(v))),
+        None => Ok(None),
+    }
+}
+
+// A map at a key.
+#[cycle(evaluate)]
+fn evaluate_read(
+    rules: Rules,
+    s: u16,
+    e: &Expr,
+    locals: &[Value],
+    state: &mut State,
+    log: &mut Log,
+) -> Result<Option<Operand>, NoMemory>
+    requires rules { AreFitting rules }
+    requires reach { reach_of e.now ≤ 65 }
+    requires locals { IsTrue (are_limited locals.now) }
+    ensures gives { IfOk result (λ r. Gives rules.entry (read_of s (Some (doing_of rules.entry e.now)) locals.now) r state.old log.old state.new log.new) }
+    ensures fits { IfOk result (λ r. IfSome r (IsFitting (reach_of e.now))) }
+{
+    match evaluate_cell(rules, s, e, locals, state, log)? {
+        Some(cell) => match read(rules, cell, state, log)? {
+            Some(v) => Ok(Some(Operand::Plain(v))),
+            None => Ok(None),
+        },
+        None => Ok(None),
+    }
+}
+
+// A field of a field and so on.
+#[cycle(evaluate)]
+fn evaluate_fields(
+    rules: Rules,
+    e: &Expr,
+    path: &[u16],
+    locals: &[Value],
+    state: &mut State,
+    log: &mut Log,
+) -> Result<Option<Operand>, NoMemory>
+    requires rules { AreFitting rules }
+    requires reach { reach_of e.now ≤ 65 }
+    requires locals { IsTrue (are_limited locals.now) }
+    ensures gives { IfOk result (λ r. Gives rules.entry (fields_of (doing_of rules.entry e.now) path.now locals.now) r state.old log.old state.new log.new) }
+    ensures fits { IfOk result (λ r. IfSome r (IsFitting (reach_of e.now))) }
+{
+    match evaluate_value(rules, e, locals, state, log)? {
+        Some(v) => {
+            let r = field(rules, &v, path)?;
+            Ok(r)
+        }
+        None => Ok(None),
+    }
+}
+
+// A record with some fields replaced.
+#[cycle(evaluate)]
+fn evaluate_with(
+    rules: Rules,
+    sets: &[SetField],
+    of: Value,
+    locals: &[Value],
+    state: &mut State,
+    log: &mut Log,
+) -> Result<Option<Operand>, NoMemory>
+    requires rules { AreFitting rules }
+    requires of { IsTrue (is_limited of) }
+    requires reach { sets_reach sets.now ≤ 65 }
+    requires locals { IsTrue (are_limited locals.now) }
+    ensures gives { IfOk result (λ r. Gives rules.entry (replaced_of of (sets_in rules.entry sets.now) locals.now) r state.old log.old state.new log.new) }
+    ensures fits { IfOk result (λ r. IfSome r (IsFitting (sets_reach sets.now))) }
+{
+    match evaluate_sets(rules, sets, of, locals, state, log)? {
+        Some(w) => Ok(Some(Operand::Plain(w))),
+        None => Ok(None),
+    }
+}
+
+// The new values of fields, each put into the record.
+#[cycle(evaluate)]
+fn evaluate_sets(
+    rules: Rules,
+    sets: &[SetField],
+    of: Value,
+    locals: &[Value],
+    state: &mut State,
+    log: &mut Log,
+) -> Result<Option<Value>, NoMemory>
+    requires rules { AreFitting rules }
+    requires of { IsTrue (is_limited of) }
+    requires reach { sets_reach sets.now ≤ 65 }
+    requires locals { IsTrue (are_limited locals.now) }
+    ensures gives { IfOk result (λ r. Gives rules.entry (sets_of of (sets_in rules.entry sets.now) locals.now) r state.old log.old state.new log.new) }
+    ensures limited { IfOk result (λ r. IfSome r (λ v. IsTrue (is_limited v))) }
+{
+    let mut record = of;
+    for set in sets {
+        match evaluate_value(rules, &set.value, locals, state, log)? {
+            Some(w) => match with_field(record, set.field, w) {
+                Some(next) => record = next,
+                None => return Ok(None),
+            },
+            None => return Ok(None),
+        }
+    }
+    Ok(Some(record))
+}
+
+// Values in order.
+#[cycle(evaluate)]
+fn evaluate_values(
+    rules: Rules,
+    es: &[Expr],
+    locals: &[Value],
+    state: &mut State,
+    log: &mut Log,
+) -> Result<Option<Vals>, NoMemory>
+    requires rules { AreFitting rules }
+    requires reach { exprs_reach es.now ≤ 65 }
+    requires locals { IsTrue (are_limited locals.now) }
+    ensures gives { IfOk result (λ r. Gives rules.entry (values_of [] (map (doing_of rules.entry) es.now) locals.now) r state.old log.old state.new log.new) }
+    ensures limited { IfOk result (λ r. IfSome r (λ vs. IsTrue (are_limited vs))) }
+{
+    let mut values = List::new(rules.alloc);
+    for e in es {
+        match evaluate_value(rules, e, locals, state, log)? {
+            Some(v) => values.push(v)?,
+            None => return Ok(None),
+        }
+    }
+    Ok(Some(values))
+}
+
+// A record.
+#[cycle(evaluate)]
+fn evaluate_make(
+    rules: Rules,
+    es: &[Expr],
+    locals: &[Value],
+    state: &mut State,
+    log: &mut Log,
+) -> Result<Option<Operand>, NoMemory>
+    requires rules { AreFitting rules }
+    requires reach { exprs_reach es.now ≤ 65 }
+    requires locals { IsTrue (are_limited locals.now) }
+    ensures gives { IfOk result (λ r. Gives rules.entry (make_of (map (doing_of rules.entry) es.now) locals.now) r state.old log.old state.new log.new) }
+    ensures fits { IfOk result (λ r. IfSome r (IsFitting (exprs_reach es.now))) }
+{
+    match evaluate_values(rules, es, locals, state, log)? {
+        Some(values) => Ok(Some(Operand::Plain(Value::Rec(values)))),
+        None => Ok(None),
+    }
+}
+
+// An option with a payload.
+#[cycle(evaluate)]
+fn evaluate_some(
+    rules: Rules,
+    e: &Expr,
+    locals: &[Value],
+    state: &mut State,
+    log: &mut Log,
+) -> Result<Option<Operand>, NoMemory>
+    requires rules { AreFitting rules }
+    requires reach { reach_of e.now ≤ 65 }
+    requires locals { IsTrue (are_limited locals.now) }
+    ensures gives { IfOk result (λ r. Gives rules.entry (some_of (doing_of rules.entry e.now) locals.now) r state.old log.old state.new log.new) }
+    ensures fits { IfOk result (λ r. IfSome r (IsFitting (reach_of e.now))) }
+{
+    match evaluate_value(rules, e, locals, state, log)? {
+        Some(v) => {
+            let v = Boxed::new(rules.alloc, v)?;
+            Ok(Some(Operand::Plain(Value::Some(v))))
+        }
+        None => Ok(None),
+    }
+}
+
+// A sum.
+#[cycle(evaluate)]
+fn evaluate_shift(
+    rules: Rules,
+    e: &Expr,
+    by: i64,
+    locals: &[Value],
+    state: &mut State,
+    log: &mut Log,
+) -> Result<Option<Operand>, NoMemory>
+    requires rules { AreFitting rules }
+    requires reach { 1 + reach_of e.now ≤ 65 }
+    requires by { IsTrue (is_number by) }
+    requires locals { IsTrue (are_limited locals.now) }
+    ensures gives { IfOk result (λ r. Gives rules.entry (shift_of (doing_of rules.entry e.now) by locals.now) r state.old log.old state.new log.new) }
+    ensures fits { IfOk result (λ r. IfSome r (IsFitting (1 + reach_of e.now))) }
+{
+    match evaluate_number(rules, e, locals, state, log)? {
+        Some(n) => Ok(Some(Operand::Number(sum(n, by)))),
+        None => Ok(None),
+    }
+}
+
+// A number as one of an integer type.
+#[cycle(evaluate)]
+fn evaluate_into(
+    rules: Rules,
+    e: &Expr,
+    int: u16,
+    locals: &[Value],
+    state: &mut State,
+    log: &mut Log,
+) -> Result<Option<Operand>, NoMemory>
+    requires rules { AreFitting rules }
+    requires reach { reach_of e.now ≤ 65 }
+    requires locals { IsTrue (are_limited locals.now) }
+    ensures gives { IfOk result (λ r. Gives rules.entry (into_of (slice_get rules.entry.ints.now int) (doing_of rules.entry e.now) locals.now) r state.old log.old state.new log.new) }
+    ensures fits { IfOk result (λ r. IfSome r (IsFitting (reach_of e.now))) }
+{
+    match evaluate_number(rules, e, locals, state, log)? {
+        Some(n) => {
+            let r = convert(rules, int, n, state, log)?;
+            Ok(r)
+        }
+        None => Ok(None),
+    }
+}
+
+// A comparison.
+#[cycle(evaluate)]
+fn evaluate_compare(
+    rules: Rules,
+    left: &Expr,
+    right: &Expr,
+    op: Op,
+    locals: &[Value],
+    state: &mut State,
+    log: &mut Log,
+) -> Result<Option<Operand>, NoMemory>
+    requires rules { AreFitting rules }
+    requires reach { max (reach_of left.now) (reach_of right.now) ≤ 65 }
+    requires locals { IsTrue (are_limited locals.now) }
+    ensures gives { IfOk result (λ r. Gives rules.entry (compare_of op (doing_of rules.entry left.now) (doing_of rules.entry right.now) locals.now) r state.old log.old state.new log.new) }
+    ensures fits { IfOk result (λ r. IfSome r (IsFitting (max (reach_of left.now) (reach_of right.now)))) }
+{
+    match evaluate(rules, left, locals, state, log)? {
+        Some(x) => match evaluate(rules, right, locals, state, log)? {
+            Some(y) => {
+                let r = compare_by(rules, op, &x, &y, state, log)?;
+                Ok(as_flag(r))
+            }
+            None => Ok(None),
+        },
+        None => Ok(None),
+    }
+}
+
+// Operands in order until one is false.
+#[cycle(evaluate)]
+fn evaluate_all(
+    rules: Rules,
+    es: &[Expr],
+    locals: &[Value],
+    state: &mut State,
+    log: &mut Log,
+) -> Result<Option<bool>, NoMemory>
+    requires rules { AreFitting rules }
+    requires reach { exprs_reach es.now ≤ 65 }
+    requires locals { IsTrue (are_limited locals.now) }
+    ensures gives { IfOk result (λ r. Gives rules.entry (all_of (map (doing_of rules.entry) es.now) locals.now) r state.old log.old state.new log.new) }
+{
+    for e in es {
+        match evaluate_flag(rules, e, locals, state, log)? {
+            Some(true) => {}
+            Some(false) => return Ok(Some(false)),
+            None => return Ok(None),
+        }
+    }
+    Ok(Some(true))
+}
+
+// Operands in order until one is true.
+#[cycle(evaluate)]
+fn evaluate_any(
+    rules: Rules,
+    es: &[Expr],
+    locals: &[Value],
+    state: &mut State,
+    log: &mut Log,
+) -> Result<Option<bool>, NoMemory>
+    requires rules { AreFitting rules }
+    requires reach { exprs_reach es.now ≤ 65 }
+    requires locals { IsTrue (are_limited locals.now) }
+    ensures gives { IfOk result (λ r. Gives rules.entry (any_of (map (doing_of rules.entry) es.now) locals.now) r state.old log.old state.new log.new) }
+{
+    for e in es {
+        match evaluate_flag(rules, e, locals, state, log)? {
+            Some(false) => {}
+            Some(true) => return Ok(Some(true)),
+            None => return Ok(None),
+        }
+    }
+    Ok(Some(false))
+}
+
+// Negation.
+#[cycle(evaluate)]
+fn evaluate_not(
+    rules: Rules,
+    e: &Expr,
+    locals: &[Value],
+    state: &mut State,
+    log: &mut Log,
+) -> Result<Option<Operand>, NoMemory>
+    requires rules { AreFitting rules }
+    requires reach { reach_of e.now ≤ 65 }
+    requires locals { IsTrue (are_limited locals.now) }
+    ensures gives { IfOk result (λ r. Gives rules.entry (not_of (doing_of rules.entry e.now) locals.now) r state.old log.old state.new log.new) }
+    ensures fits { IfOk result (λ r. IfSome r (IsFitting (reach_of e.now))) }
+{
+    match evaluate_flag(rules, e, locals, state, log)? {
+        Some(s) => Ok(Some(flag(!s))),
+        None => Ok(None),
+    }
+}
+
+// A function on its arguments.
+#[cycle(evaluate)]
+fn evaluate_apply(
+    rules: Rules,
+    es: &[Expr],
+    fun: u16,
+    locals: &[Value],
+    state: &mut State,
+    log: &mut Log,
+) -> Result<Option<Operand>, NoMemory>
+    requires rules { AreFitting rules }
+    requires reach { exprs_reach es.now ≤ 65 }
+    requires locals { IsTrue (are_limited locals.now) }
+    ensures gives { IfOk result (λ r. Gives rules.entry (apply_of (fun_at (funs_of rules.entry) fun) (map (doing_of rules.entry) es.now) locals.now) r state.old log.old state.new log.new) }
+    ensures fits { IfOk result (λ r. IfSome r (IsFitting (exprs_reach es.now))) }
+{
+    match evaluate_values(rules, es, locals, state, log)? {
+        Some(args) => match call_function(rules, fun, args, state, log)? {
+            Some(v) => Ok(Some(Operand::Plain(v))),
+            None => Ok(None),
+        },
+        None => Ok(None),
+    }
+}
