@@ -4,7 +4,8 @@ ghost use Rattle.cm_value.specs.Membership.{is_value_of, IsValueOf, member_of, a
 use crate::Value;
 use cm_model::{EnumDecl, IntDecl, Model, Part, Ty};
 
-/// Whether a value is one of a type. It is none of a type that the model doesn't declare.
+/// Whether a value is one of a type. A sort, integer type, enum or record that the model doesn't declare
+/// has no values.
 pub fn member(model: &Model, ty: &Ty, v: &Value) -> bool
     ensures exact { IsTrue result ↔ IsValueOf model.now ty.now v.now }
 {
