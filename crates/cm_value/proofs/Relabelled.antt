@@ -1,5 +1,5 @@
 -- What a relabelled value is.
-use Rattle.std.proofs.Common.{◌≡◌, ℕ, ℤ, ◌==◌, Bool, true, false, not, ◌&&◌, ◌||◌, if◌then◌else◌, List, [], ◌∷◌, map, Option, Some, None, slice_get, IsTrue, refl, sym, ap, ◌∙◌, subst, arith}
+use Rattle.std.proofs.Common.{◌≡◌, ℕ, ℤ, ◌==◌, Bool, true, false, not, ◌&&◌, ◌||◌, if◌then◌else◌, List, [], ◌∷◌, map, Option, Some, None, slice_get, IsTrue, refl, sym, ap, ◌∙◌, arith}
 use Rattle.std.proofs.lemmas.Bool.Decides.{nat_tests}
 use Rattle.cm_model.specs.Tables.{Tables}
 use Rattle.cm_model.specs.declared.ty.Ty.{Ty, out-Ty}
@@ -8,10 +8,10 @@ use Rattle.cm_model.specs.declared.ty.RecDecl.{RecDecl}
 use Rattle.cm_value.specs.declared.value.Swap.{Swap}
 use Rattle.cm_value.specs.declared.value.Value.{Value}
 use Rattle.cm_value.specs.declared.value.Value.TheVariants as value
-use Rattle.cm_value.specs.Membership.{Member, field_types, member_of, are_members, is_value_of, is_sort, is_some_of, is_record_of, has_fields}
+use Rattle.cm_value.specs.Membership.{Member, field_types, member_of, are_members, is_value_of, is_some_of, is_record_of, has_fields}
 use Rattle.cm_value.specs.Relabelling.{LacksBoth, relabelled, Relabel, swapped, relabel_of, relabel_step, each_relabelled, is_of_sort, types_of_fields, type_of_payload, Stands, stands_in_one, stands_step, stands_of}
 use Rattle.cm_value.proofs.Folds.{fold-elem, fold-int, fold-tag, fold-rec, fold-none, fold-some}
-use Rattle.cm_value.proofs.Members.{member-elem, member-int, member-tag, member-rec, member-none, member-some}
+use Rattle.cm_value.proofs.Members.{member-elem, member-rec, member-some}
 use Rattle.cm_value.proofs.Induction.{Each, value_ind}
 
 swapped_twice : (x y n : ℕ) → swapped x y (swapped x y n) ≡ n

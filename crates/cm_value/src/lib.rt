@@ -19,3 +19,6 @@ pub use least_value::least;
 pub use membership::member;
 pub use relabelling::relabel;
 pub use value::{Swap, Vals, Value};
+
+#[cfg(test)]
+mod tests;
