@@ -12,3 +12,5 @@ pub mod Near
 pub mod Touching
 pub mod Natural
 pub mod Functions
+pub mod Reaching
+pub mod Fitting
