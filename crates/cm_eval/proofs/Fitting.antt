@@ -77,7 +77,8 @@ module _ (t : Tables) (small : HasSmallEnums t) (funs : ℕ) (reply : Ty) where
       let value = expr_within locals e (value_part d.0.value (kind_of (in_scope locals) e) tests.1) in
       omega (arith, key, value)
   node_within (Stmt-F.If c left right) locals h =
-      let tests = and_parts (is_bool (kind_of (in_scope locals) c)) (is_some (block_typing (map typing (bare left)) locals) && is_some (block_typing (map typing (bare right)) locals)) (passed _ _ h) in
+      let tests = and_parts (is_bool (kind_of (in_scope locals) c))
+      (is_some (block_typing (map typing (bare left)) locals) && is_some (block_typing (map typing (bare right)) locals)) (passed _ _ h) in
       let blocks = and_parts (is_some (block_typing (map typing (bare left)) locals)) (is_some (block_typing (map typing (bare right)) locals)) tests.1 in
       let cond = expr_within locals c (bool_part (kind_of (in_scope locals) c) tests.0) in
       let one = block_within left locals blocks.0 in
@@ -113,7 +114,9 @@ module _ (t : Tables) (small : HasSmallEnums t) (funs : ℕ) (reply : Ty) where
       let rest = body_reaches next.0 body next.2 in
       omega (arith, one, rest)
 
-each_within : {X : Type 0} (p : X → Bool) (f : X → ℕ) (n : ℕ) → ((x : X) → p x ≡ true → f x ≤ n) → (xs : List X) → list_all p xs ≡ true → greatest (map f xs) ≤ n
+-- the greatest of numbers that a test bounds
+each_within : {X : Type 0} (p : X → Bool) (f : X → ℕ) (n : ℕ) → ((x : X) → p x ≡ true → f x ≤ n)
+    → (xs : List X) → list_all p xs ≡ true → greatest (map f xs) ≤ n
 each_within p f n within [] h = omega arith
 each_within p f n within (x ∷ xs) h =
     let b = and_parts (p x) (list_all p xs) h in
@@ -131,6 +134,7 @@ numbered_within p f n within i (x ∷ xs) h =
     omega (arith, one, rest)
 
 module _ (t : Tables) (typed : IsWellTyped t) where
+  -- its enums have 64 variants at most
   pub small_enums : HasSmallEnums t
   small_enums e d at = leb-true (length d.variants) 64 (and_parts (leb 1 (length d.variants)) (leb (length d.variants) 64) (enum_at t typed e d at)).1
 
@@ -168,10 +172,11 @@ module _ (t : Tables) (typed : IsWellTyped t) where
 
   -- what the evaluator asks of a model
   pub model_fits : (funs_reach t.funs ≤ 65) × (states_reach t.states ≤ 65) × IsTrue (list_all is_range t.ints)
-  model_fits =
-      (numbered_within (is_fun t) (λ f. body_reach f.body) 65 fun_within 0 t.funs typed.functions,
-      each_within (is_state t) (λ d. key_reach d.inv) 65 state_within t.states typed.cells,
-      typed.ranges)
+  model_fits = (
+    numbered_within (is_fun t) (λ f. body_reach f.body) 65 fun_within 0 t.funs typed.functions,
+    each_within (is_state t) (λ d. key_reach d.inv) 65 state_within t.states typed.cells,
+    typed.ranges,
+  )
 
   -- a call's body
   pub call_fits : (i : ℕ) (d : Call) → slice_get t.calls i ≡ Some d → body_reach d.body ≤ 65

@@ -21,6 +21,7 @@ use Rattle.cm_eval.specs.Limits.{too_far, reach_step, reach_of}
 abbrev pub HasSmallEnums : Tables → Type 0
 HasSmallEnums t = (e : ℕ) (d : EnumDecl) → slice_get t.enums e ≡ Some d → length d.variants ≤ 64
 
+-- where an option was made by a test, the test is true; where by an option, that one has a content
 pub passed : {X : Type 0} (b : Bool) (x : X) → is_some (if_so b x) ≡ true → b ≡ true
 passed true x h = refl
 passed false x h = absurd (cc)
@@ -80,6 +81,7 @@ compared op.Le j k h = integers j k h
 compared op.Gt j k h = integers j k h
 compared op.Ge j k h = integers j k h
 
+-- the reach of literals
 number_reach : (b : Bool) (k : Kind) → is_some (if_so b k) ≡ true → (if b then 0 else too_far) ≤ 0
 number_reach true k h = omega arith
 number_reach false k h = absurd (cc)
@@ -111,11 +113,11 @@ module _ (s : Scope) (small : HasSmallEnums s.tables) where
   set_within : (x : SetField) → IsWithinShifts x.value → IsSetWithin x
   set_within x within h =
       let kind : set_kind x ≡ (x.field, kind_of s x.value) =
-          ap set_kind (sym (roll-out-SetField x)) ∙ fold-roll-SetField (Option Kind) Set (kind_step s) set_step (out-SetField x) in
+      ap set_kind (sym (roll-out-SetField x)) ∙ fold-roll-SetField (Option Kind) Set (kind_step s) set_step (out-SetField x) in
       let reach : set_reach x ≡ reach_of x.value =
-          ap set_reach (sym (roll-out-SetField x)) ∙ fold-roll-SetField ℕ ℕ reach_step (λ x. x.value) (out-SetField x) in
+      ap set_reach (sym (roll-out-SetField x)) ∙ fold-roll-SetField ℕ ℕ reach_step (λ x. x.value) (out-SetField x) in
       let shifts : set_shifts x ≡ shifts_of x.value =
-          ap set_shifts (sym (roll-out-SetField x)) ∙ fold-roll-SetField ℕ ℕ shifts_step (λ x. x.value) (out-SetField x) in
+      ap set_shifts (sym (roll-out-SetField x)) ∙ fold-roll-SetField ℕ ℕ shifts_step (λ x. x.value) (out-SetField x) in
       let le : reach_of x.value ≤ shifts_of x.value = within (sym (ap (λ (p : Set). is_some p.1) kind) ∙ h) in
       subst (λ n. n ≤ set_shifts x) (sym reach) (subst (λ n. reach_of x.value ≤ n) (sym shifts) le)
 
@@ -151,6 +153,7 @@ module _ (s : Scope) (small : HasSmallEnums s.tables) where
       let rest = parts_within ps ks b.1 in
       omega (arith, one, rest)
 
+  -- what `are_sets` says of its first set
   no_field : (t : Ty) (k : Set) (ks : List Set) → field_of s.tables t k.0 ≡ None → are_sets s.tables t (k ∷ ks) ≡ false
   no_field t k ks is = rw (is) refl
 
