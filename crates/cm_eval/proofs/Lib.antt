@@ -15,3 +15,4 @@ pub mod Functions
 pub mod Calls
 pub mod Reaching
 pub mod Fitting
+pub mod RulesFit
