@@ -1,4 +1,4 @@
-use Rattle.std.proofs.Common.{◌≡◌, ◌≤◌, Some, slice_get, sym, ap, ◌∙◌}
+use Rattle.std.proofs.Common.{slice_get, sym, ap, ◌∙◌}
 use Rattle.cm_eval.proofs.Calls.{meets}
 use Rattle.cm_eval.proofs.RulesFit.{rules_fit}
 use Rattle.cm_eval.proofs.Fitting.{invariant_fits}

@@ -1,4 +1,4 @@
-use Rattle.std.proofs.Common.{◌≡◌, ◌≤◌, Some, None, slice_get, sym, ap, ◌∙◌, subst}
+use Rattle.std.proofs.Common.{◌≤◌, slice_get, sym, ap, ◌∙◌, subst}
 use Rattle.cm_eval.specs.Limits.{body_reach}
 use Rattle.cm_eval.specs.Run.{Ended}
 use Rattle.cm_eval.specs.Going.{ended_by, stopped, touched_of}
