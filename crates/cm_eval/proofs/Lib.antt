@@ -16,3 +16,4 @@ pub mod Calls
 pub mod Reaching
 pub mod Fitting
 pub mod RulesFit
+pub mod Examples
