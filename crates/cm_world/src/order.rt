@@ -135,8 +135,8 @@ fn run_order(
     init: &State,
     log: &mut Log,
 ) -> Result<OneOrder, NoMemory>
-    requires first { IsTrue (are_limited first.entry.args.now.vals) }
-    requires second { IsTrue (are_limited second.entry.args.now.vals) }
+    requires first { IsTrue (are_limited first.args.now.vals) }
+    requires second { IsTrue (are_limited second.args.now.vals) }
     ensures order { IfOk result (λ o. run_of_order model.now (invocation first.entry.call first.entry.args.now.vals) (invocation second.entry.call second.entry.args.now.vals) init.now (touched_of log.old) log.old.steps ≡ order_end o log.new) }
 {
     let mut state = init.try_copy(alloc)?;
@@ -158,7 +158,7 @@ fn run_second(
     state: State,
     log: &mut Log,
 ) -> Result<OneOrder, NoMemory>
-    requires second { IsTrue (are_limited second.entry.args.now.vals) }
+    requires second { IsTrue (are_limited second.args.now.vals) }
     ensures order { IfOk result (λ o. second_ended first (evaluation_of model.now second.entry.call second.entry.args.now.vals state (touched_of log.old) log.old.steps) ≡ order_end o log.new) }
 {
     let mut state = state;
