@@ -15,13 +15,13 @@ abbrev pub Keeps : Store → Store → List CellName → List Bool → ℕ → L
 Keeps s u cs ws i before log = before ++ cells_inspected s u cs ws ≡ log ++ left_over s u cs ws i
 
 module _ (s u : Store) (cs : List CellName) (ws : List Bool) (i : ℕ) (c : CellName) (w : Bool) (lc : i < length cs) (lw : i < length ws)
-    (ec : c ≡ get_or cs i c) (ew : w ≡ get_or ws i w) where
+    (ec : c ≡ get_or cs i c) (ew : get_or ws i false ≡ w) where
   one : left_over s u cs ws i ≡ cells_inspected s u (c ∷ drop (i + 1) cs) (w ∷ drop (i + 1) ws)
   one =
       ap (λ xs. cells_inspected s u xs (drop i ws)) (drop_more cs i c lc)
-      ∙ ap (λ ys. cells_inspected s u (get_or cs i c ∷ drop (i + 1) cs) ys) (drop_more ws i w lw)
-      ∙ ap (λ x. cells_inspected s u (x ∷ drop (i + 1) cs) (get_or ws i w ∷ drop (i + 1) ws)) (sym ec)
-      ∙ ap (λ y. cells_inspected s u (c ∷ drop (i + 1) cs) (y ∷ drop (i + 1) ws)) (sym ew)
+      ∙ ap (λ ys. cells_inspected s u (get_or cs i c ∷ drop (i + 1) cs) ys) (drop_more ws i false lw)
+      ∙ ap (λ x. cells_inspected s u (x ∷ drop (i + 1) cs) (get_or ws i false ∷ drop (i + 1) ws)) (sym ec)
+      ∙ ap (λ y. cells_inspected s u (c ∷ drop (i + 1) cs) (y ∷ drop (i + 1) ws)) ew
 
   -- the cell was not written
   pub skips : (before log : List ℕ) → Keeps s u cs ws i before log → w ≡ false → Keeps s u cs ws (i + 1) before log
