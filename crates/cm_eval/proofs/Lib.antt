@@ -12,3 +12,7 @@ pub mod Near
 pub mod Touching
 pub mod Natural
 pub mod Functions
+pub mod Calls
+pub mod Reaching
+pub mod Fitting
+pub mod RulesFit

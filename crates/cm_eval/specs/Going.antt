@@ -1,13 +1,14 @@
 -- What the evaluator's functions say of themselves: a run that was at a script is, after them, at what is
 -- done with what came out.
 use Rattle.std.specs.Prelude.{◌≡◌, ℕ, ◌≤◌, ◌==◌, Bool, true, IsTrue, if◌then◌else◌, List, map, Option, Some, None}
-use Rattle.cm_model.specs.declared.ty.IntDecl.{IntDecl}
 use Rattle.cm_model.specs.declared.body.Expr.{Expr}
 use Rattle.cm_model.specs.declared.body.StateDecl.{StateDecl}
 use Rattle.cm_value.specs.declared.value.Value.{Value}
 use Rattle.cm_eval.specs.declared.log.Log.{Log}
 use Rattle.cm_eval.specs.Comparison.{variant, or_stop, fields_compared, comparison}
 use Rattle.cm_eval.specs.State.{Store, Touched}
+use Rattle.cm_eval.specs.declared.outcome.Outcome.{Outcome}
+use Rattle.cm_eval.specs.declared.outcome.Outcome.TheVariants as outcome
 use Rattle.cm_eval.specs.declared.rules.Rules.{Rules}
 use Rattle.cm_eval.specs.declared.flow.Flow.{Flow}
 use Rattle.cm_eval.specs.declared.flow.Flow.TheVariants as flow
@@ -141,3 +142,12 @@ ComparesCells c d r log after = (t : Touched) (k : Bool → Trace) →
 -- what came of a write: whether the run goes on
 abbrev pub Puts : Rules → CellName → Value → Bool → Store → Log → Store → Log → Type 0
 Puts r c v b s l t after = (d : Doing) → goes_on r s l (Writes c v d) ≡ (if b then goes_on r t after d else stopped after)
+
+-- how a call ended, with the state and the log after it
+abbrev pub end_of : Outcome → Store → Log → End
+end_of (outcome.Reply v) s l = Ended v s (touched_of l) l.steps
+end_of outcome.Blocked s l = stopped l
+
+abbrev pub IsLimitedOutcome : Outcome → Type 0
+IsLimitedOutcome (outcome.Reply v) = IsTrue (is_limited v)
+IsLimitedOutcome outcome.Blocked = IsTrue true

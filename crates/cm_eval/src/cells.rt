@@ -7,7 +7,7 @@ ghost use Rattle.cm_eval.specs.Going.{Gives, AreFitting, Touches, Adds, Asks, Se
 
 use crate::compare::compare;
 use crate::expr::evaluate_flag;
-use crate::log::{CellName, Log};
+use crate::log::{CellName, Log, copy_cell};
 use crate::rules::Rules;
 use crate::state::State;
 use cm_model::{Expr, List, NoMemory, StateDecl};
@@ -71,7 +71,7 @@ pub fn write(
     let Some(before) = state.value(cell.state, cell.key.as_ref()) else {
         return Ok(false);
     };
-    let name = copy_cell(rules, &cell)?;
+    let name = copy_cell(rules.alloc, &cell)?;
     match touch(rules, declared, name, before, log)? {
         Some(at) => {
             mark(&mut log.written, at);
@@ -80,20 +80,6 @@ pub fn write(
         }
         None => Ok(false),
     }
-}
-
-// An equal name of a cell.
-fn copy_cell(rules: Rules, cell: &CellName) -> Result<CellName, NoMemory>
-    ensures equal { IfOk result (λ copy. copy ≡ cell.now) }
-{
-    let key = match &cell.key {
-        Some(key) => Some(copy_value(rules.alloc, key)?),
-        None => None,
-    };
-    Ok(CellName {
-        state: cell.state,
-        key,
-    })
 }
 
 // Marks a touched cell as written.
@@ -188,9 +174,9 @@ fn add(
     Ok(None)
 }
 
-// Whether a cell's invariant is true of its value.
+/// Whether a cell's invariant is true of its value.
 #[cycle(evaluate)]
-fn ask(
+pub fn ask(
     rules: Rules,
     invariant: &Option<Expr>,
     value: &Value,

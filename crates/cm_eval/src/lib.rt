@@ -1,6 +1,7 @@
 //! The evaluator: what a call does with its arguments and a state, and what it logs.
 #![tactic(auto)]
 
+mod call;
 mod cells;
 mod compare;
 mod expr;
@@ -12,6 +13,7 @@ mod rules;
 mod state;
 mod stmt;
 
+pub use call::{meets_invariant, run_call};
 pub use log::{CellName, Log};
 pub use outcome::{Args, Outcome};
 pub use state::{Except, State};

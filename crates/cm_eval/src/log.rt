@@ -1,5 +1,8 @@
-use cm_model::List;
-use cm_value::Value;
+ghost use Rattle.std.specs.Prelude.{◌≡◌, [], IfOk};
+
+use cm_model::{List, NoMemory};
+use cm_value::{Vals, Value, copy_value};
+use std::alloc::Global;
 
 /// The name of a cell: a state, and a key where the state is a map.
 #[derive(Drop)]
@@ -19,4 +22,44 @@ pub struct Log {
     pub cells: List<CellName>,
     /// For each of the cells, whether an assignment has written it.
     pub written: List<bool>,
+}
+
+impl Log {
+    /// A log of no decisions and no cells.
+    pub fn new(alloc: Global) -> Log
+        ensures steps { result.steps ≡ [] }
+        ensures cells { result.cells ≡ [] }
+        ensures written { result.written ≡ [] }
+    {
+        Log {
+            steps: List::new(alloc),
+            cells: List::new(alloc),
+            written: List::new(alloc),
+        }
+    }
+}
+
+/// An equal name of a cell.
+pub fn copy_cell(alloc: Global, cell: &CellName) -> Result<CellName, NoMemory>
+    ensures equal { IfOk result (λ copy. copy ≡ cell.now) }
+{
+    let key = match &cell.key {
+        Some(key) => Some(copy_value(alloc, key)?),
+        None => None,
+    };
+    Ok(CellName {
+        state: cell.state,
+        key,
+    })
+}
+
+/// Equal values.
+pub fn copy_values(alloc: Global, values: &[Value]) -> Result<Vals, NoMemory>
+    ensures equal { IfOk result (λ copies. copies ≡ values.now) }
+{
+    let mut copies = List::new(alloc);
+    for value in values {
+        copies.push(copy_value(alloc, value)?)?;
+    }
+    Ok(copies)
 }

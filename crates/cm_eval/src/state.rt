@@ -6,7 +6,7 @@ ghost use Rattle.cm_value.specs.Limits.{is_limited};
 ghost use Rattle.cm_eval.specs.Limits.{are_limited};
 ghost use Rattle.cm_eval.specs.Places.{Finds};
 
-use crate::CellName;
+use crate::log::{CellName, copy_cell, copy_values};
 use cm_model::{List, Model, NoMemory, StateDecl};
 use cm_value::{Vals, Value, copy_value, least, same};
 use std::alloc::Global;
@@ -106,6 +106,18 @@ impl State {
         }
     }
 
+    /// An equal state.
+    pub fn try_copy(&self, alloc: Global) -> Result<State, NoMemory>
+        ensures equal { IfOk result (λ copy. copy ≡ self.now) }
+    {
+        let defaults = copy_values(alloc, self.defaults.as_slice())?;
+        let exceptions = copy_exceptions(alloc, self.exceptions.as_slice())?;
+        Ok(State {
+            defaults,
+            exceptions,
+        })
+    }
+
     /// The number of exceptions.
     pub fn len(&self) -> usize
         ensures count { result ≡ length self.now.exceptions }
@@ -169,4 +181,17 @@ fn find(exceptions: &[Except], state: u16, key: Option<&Value>) -> Option<usize>
         }
     }
     None
+}
+
+// Equal exceptions.
+fn copy_exceptions(alloc: Global, exceptions: &[Except]) -> Result<List<Except>, NoMemory>
+    ensures equal { IfOk result (λ copies. copies ≡ exceptions.now) }
+{
+    let mut copies = List::new(alloc);
+    for exception in exceptions {
+        let cell = copy_cell(alloc, &exception.cell)?;
+        let value = copy_value(alloc, &exception.value)?;
+        copies.push(Except { cell, value })?;
+    }
+    Ok(copies)
 }

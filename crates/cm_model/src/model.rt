@@ -132,7 +132,7 @@ impl Model {
 }
 
 // The pair with this number of so many calls.
-fn pair_at(calls: u16, k: u32) -> Pair
+pub(crate) fn pair_at(calls: u16, k: u32) -> Pair
     requires few { calls ≤ 64 }
     requires below { k < calls * (calls + 1) / 2 }
     ensures pair { slice_get (pairs_of calls) k ≡ Some (result.a, result.b) }

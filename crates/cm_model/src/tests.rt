@@ -20,7 +20,7 @@ fn a_name_keeps_its_text(rt: HostRuntime) -> Result<(), Fail> {
 }
 
 #[test]
-fn pairs_go_by_the_first_call(rt: HostRuntime) -> Result<(), Fail> {
+fn a_model_of_no_calls_has_no_pairs(rt: HostRuntime) -> Result<(), Fail> {
     let alloc = rt.alloc();
     let mut enums = List::new(alloc);
     let mut variants = List::new(alloc);
@@ -40,5 +40,24 @@ fn pairs_go_by_the_first_call(rt: HostRuntime) -> Result<(), Fail> {
         List::new(alloc),
     );
     assert_eq!(rt; model.pair_count(), 0);
+    Ok(())
+}
+
+#[test]
+fn pairs_are_numbered_by_the_first_call(rt: HostRuntime) -> Result<(), Fail> {
+    for (k, a, b) in [
+        (0u32, 0u16, 0u16),
+        (1, 0, 1),
+        (2, 0, 2),
+        (3, 1, 1),
+        (4, 1, 2),
+        (5, 2, 2),
+    ] {
+        assert!(rt; k < 6);
+        assert_eq!(rt; model::pair_at(3, k), Pair { a, b });
+    }
+    assert_eq!(rt; model::pair_at(64, 63), Pair { a: 0, b: 63 });
+    assert_eq!(rt; model::pair_at(64, 64), Pair { a: 1, b: 1 });
+    assert_eq!(rt; model::pair_at(64, 2079), Pair { a: 63, b: 63 });
     Ok(())
 }

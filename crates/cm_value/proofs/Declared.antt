@@ -1,9 +1,8 @@
 -- What well typed tables say of each declaration.
-use Rattle.std.proofs.Common.{◌≡◌, ℕ, zero, suc, ◌+◌, ◌<◌, ◌≤◌, ℤ, pos, neg_ℤ, Bool, true, false, ◌&&◌, List, [], ◌∷◌, length, Option, Some, None, slice_get, IsTrue, ltb, leb, int_le, refl, sym, ap, ◌∙◌, subst, arith}
+use Rattle.std.proofs.Common.{◌≡◌, ℕ, zero, suc, ◌+◌, ◌<◌, Bool, true, false, ◌&&◌, List, [], ◌∷◌, length, Some, slice_get, IsTrue, ltb, leb, refl, subst, arith}
 use Rattle.std.specs.List.{list_all}
-use Rattle.std.proofs.lemmas.Bool.{ltb-true, lt-ltb}
+use Rattle.std.proofs.lemmas.Bool.{ltb-true}
 use Rattle.cm_model.specs.Tables.{Tables}
-use Rattle.cm_model.specs.Kinds.{is_number}
 use Rattle.cm_model.specs.Types.{is_type_before, is_type_in_use}
 use Rattle.cm_model.specs.WellTyped.{IsWellTyped, each_from, is_range, is_enum, is_record}
 use Rattle.cm_model.specs.Names.{are_distinct, is_name, part_names}
@@ -55,5 +54,5 @@ module _ (t : Tables) (typed : IsWellTyped t) where
   field_before r i d p at field =
       let whole = each_at (is_record t) 0 t.records r r d typed.fields at (omega arith) in
       let types = (both (list_all (λ q. is_type_before t r q.ty && is_type_in_use t q.ty) d.fields) (are_distinct (part_names d.fields) && list_all is_name (part_names d.fields))
-          (both (leb 1 (length d.fields)) _ whole).1).0 in
+      (both (leb 1 (length d.fields)) _ whole).1).0 in
       (both (is_type_before t r p.ty) (is_type_in_use t p.ty) (all_at (λ q. is_type_before t r q.ty && is_type_in_use t q.ty) d.fields i p types field)).0

@@ -1,11 +1,11 @@
 -- Induction over values.
-use Rattle.std.proofs.Common.{◌≡◌, ℕ, ℤ, List, [], ◌∷◌, map, refl, sym, ap, ◌∙◌, subst}
+use Rattle.std.proofs.Common.{ℕ, ℤ, List, [], ◌∷◌, map, sym, subst}
 use Rattle.cm_value.specs.declared.value.Value.{Value}
 use Rattle.cm_value.specs.declared.value.Value.TheVariants as value
 use Rattle.cm_value.specs.declared.value.Value.TheVariants.{rolls-Elem, rolls-Int, rolls-Tag, rolls-Rec, rolls-None, rolls-Some}
 use Rattle.cm_value.specs.declared.value.Value.TheViews.{roll-Value}
 use Rattle.cm_value.specs.declared.value.Value.TheOpen.{Value-F}
-use Rattle.cm_value.specs.declared.value.Value.TheFolds.{fold-Value, fold-roll-Value, ind-Value, map-Value}
+use Rattle.cm_value.specs.declared.value.Value.TheFolds.{ind-Value, map-Value}
 
 -- a fact of each value of a list
 abbrev pub Each : (Value → Type 0) → List Value → Type 0

@@ -1,5 +1,5 @@
 -- The least value of a type is a value of it.
-use Rattle.std.proofs.Common.{◌≡◌, ℕ, zero, suc, ◌+◌, ◌<◌, ◌≤◌, ℤ, pos, negsuc, Bool, true, false, ◌&&◌, List, [], ◌∷◌, map, take, length, Option, Some, None, slice_get, IsTrue, ltb, leb, int_le, refl, sym, ap, ◌∙◌, subst, arith}
+use Rattle.std.proofs.Common.{◌≡◌, ℕ, zero, suc, ◌<◌, ◌≤◌, ℤ, pos, negsuc, Bool, true, ◌&&◌, List, [], ◌∷◌, map, take, length, Some, slice_get, IsTrue, leb, int_le, refl, sym, ap, ◌∙◌, subst, arith}
 use Rattle.std.proofs.lemmas.Bool.{ltb-true, lt-ltb, leb-true, le-leb}
 use Rattle.cm_model.specs.Tables.{Tables}
 use Rattle.cm_model.specs.Types.{IsType, is_type_before, ty_step}
@@ -13,9 +13,8 @@ use Rattle.cm_model.specs.declared.ty.EnumDecl.{EnumDecl}
 use Rattle.cm_model.specs.declared.ty.RecDecl.{RecDecl}
 use Rattle.cm_model.specs.declared.ty.Part.{Part}
 use Rattle.cm_value.specs.declared.value.Value.{Value}
-use Rattle.cm_value.specs.declared.value.Value.TheVariants as value
 use Rattle.cm_value.specs.Membership.{member_of, are_members, IsValueOf, is_sort, is_number_of, is_variant_of, is_record_of, is_none_of, is_within, has_variant, has_fields}
-use Rattle.cm_value.specs.Least.{least_of, least_in, least_form, least_record, least_records, lowest, or_empty}
+use Rattle.cm_value.specs.Least.{least_of, least_in, least_form, least_records, lowest, or_empty}
 use Rattle.cm_value.proofs.Types.{type_before}
 use Rattle.cm_value.proofs.Declared.{both, and_true, there, range_at, enum_at, field_before}
 use Rattle.cm_value.proofs.Members.{member-elem, member-int, member-tag, member-rec, member-none}

@@ -1,6 +1,7 @@
 -- The least values of the records, one by one.
-use Rattle.std.proofs.Common.{◌≡◌, ℕ, zero, suc, ◌+◌, ◌<◌, ◌≤◌, List, [], ◌∷◌, ◌++◌, map, length, take, get_or, Option, Some, None, refl, sym, ap, ◌∙◌, arith, slice_get, append_assoc, length-append}
+use Rattle.std.proofs.Common.{◌≡◌, ℕ, zero, suc, ◌+◌, ◌<◌, ◌≤◌, List, [], ◌∷◌, ◌++◌, map, length, take, get_or, Some, refl, sym, ap, ◌∙◌, arith, slice_get, append_assoc, length-append}
 use Rattle.std.proofs.lemmas.List.{append-nil}
+use Rattle.std.proofs.lemmas.Option.{slice_get_past}
 use Rattle.cm_model.specs.Types.{record_values}
 use Rattle.cm_model.specs.declared.ty.RecDecl.{RecDecl}
 use Rattle.cm_model.specs.declared.ty.IntDecl.{IntDecl}
@@ -40,11 +41,6 @@ module _ {X : Type 0} (f : List X → RecDecl → X) where
   pub value_at : (rs : List RecDecl) (i : ℕ) (r : RecDecl) → slice_get rs i ≡ Some r
       → slice_get (record_values f [] rs) i ≡ Some (f (record_values f [] (take i rs)) r)
   value_at rs i r e = value_from [] rs i i r e (omega arith)
-
-slice_get_past : {X : Type 0} (xs : List X) (i : ℕ) → length xs ≤ i → slice_get xs i ≡ None
-slice_get_past [] i le = refl
-slice_get_past (x ∷ xs) zero le = absurd (omega arith)
-slice_get_past (x ∷ xs) (suc i) le = slice_get_past xs i (omega arith)
 
 slice_get_at : {X : Type 0} (xs : List X) (i : ℕ) (d : X) → i < length xs → slice_get xs i ≡ Some (get_or xs i d)
 slice_get_at [] i d lt = absurd (omega arith)

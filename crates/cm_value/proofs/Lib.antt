@@ -9,3 +9,4 @@ pub mod Parts
 pub mod LeastMember
 pub mod Relabelled
 pub mod Limited
+pub mod ExampleLemmas

@@ -1,11 +1,11 @@
 -- The numbers in the values of a well typed model are limited.
-use Rattle.std.proofs.Common.{◌≡◌, ℕ, zero, suc, ◌+◌, ◌<◌, ◌≤◌, ℤ, pos, neg_ℤ, negsuc, ◌≤ℤ◌, Bool, true, false, ◌&&◌, List, [], ◌∷◌, map, length, Option, Some, None, slice_get, IsTrue, ltb, leb, int_le, refl, sym, ap, ◌∙◌, subst, arith}
+use Rattle.std.proofs.Common.{◌≡◌, ℕ, zero, suc, ◌<◌, ◌≤◌, ℤ, pos, neg_ℤ, ◌≤ℤ◌, Bool, true, ◌&&◌, List, [], ◌∷◌, map, length, Option, Some, None, slice_get, IsTrue, ltb, leb, int_le, refl, sym, ◌∙◌, subst, arith}
 use Rattle.std.specs.List.{list_all}
-use Rattle.std.proofs.lemmas.Bool.{ltb-true, lt-ltb, leb-true, le-leb}
+use Rattle.std.proofs.lemmas.Bool.{ltb-true, lt-ltb, leb-true}
 use Rattle.std.proofs.lemmas.Int.{ints}
 use Rattle.cm_model.specs.Tables.{Tables}
 use Rattle.cm_model.specs.Kinds.{is_number}
-use Rattle.cm_model.specs.WellTyped.{IsWellTyped, is_range, is_enum}
+use Rattle.cm_model.specs.WellTyped.{IsWellTyped}
 use Rattle.cm_model.specs.declared.ty.Ty.{Ty, out-Ty}
 use Rattle.cm_model.specs.declared.ty.Ty.TheOpen.{Ty-F}
 use Rattle.cm_model.specs.declared.ty.IntDecl.{IntDecl}
@@ -13,7 +13,7 @@ use Rattle.cm_model.specs.declared.ty.EnumDecl.{EnumDecl}
 use Rattle.cm_model.specs.declared.ty.RecDecl.{RecDecl}
 use Rattle.cm_value.specs.declared.value.Value.{Value}
 use Rattle.cm_value.specs.declared.value.Value.TheVariants as value
-use Rattle.cm_value.specs.Membership.{Member, member_of, are_members, are_values_of, IsValueOf, is_value_of, is_number_of, is_variant_of, is_record_of, is_some_of, is_within, has_variant, has_fields, field_types}
+use Rattle.cm_value.specs.Membership.{member_of, are_members, are_values_of, IsValueOf, is_value_of, is_number_of, is_variant_of, is_record_of, is_some_of, is_within, has_variant, has_fields, field_types}
 use Rattle.cm_value.specs.Limits.{is_limited, limited_step}
 use Rattle.cm_value.proofs.Folds.{fold-elem, fold-int, fold-tag, fold-rec, fold-none, fold-some}
 use Rattle.cm_value.proofs.Declared.{both, and_true, range_at, enum_at}

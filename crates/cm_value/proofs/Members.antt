@@ -3,7 +3,6 @@ use Rattle.std.proofs.Common.{◌≡◌, ◌≢◌, ℕ, ℤ, zero, suc, Bool, t
 use Rattle.std.proofs.lemmas.List.{length-map}
 use Rattle.cm_model.specs.declared.ty.Ty.{Ty, out-Ty}
 use Rattle.cm_model.specs.declared.ty.Ty.TheVariants as ty
-use Rattle.cm_model.specs.declared.ty.Ty.TheOpen.{Ty-F}
 use Rattle.cm_model.specs.declared.ty.Part.{Part}
 use Rattle.cm_model.specs.declared.ty.RecDecl.{RecDecl}
 use Rattle.cm_model.specs.Tables.{Tables}
@@ -11,6 +10,7 @@ use Rattle.cm_value.specs.declared.value.Value.{Value}
 use Rattle.cm_value.specs.declared.value.Value.TheVariants as value
 use Rattle.cm_value.specs.Membership.{Member, are_members, member_of, member_step, is_value_of, IsValueOf, are_values_of, is_sort, is_number_of, is_variant_of, is_record_of, is_none_of, is_some_of, has_fields, field_types}
 use Rattle.cm_value.proofs.Types.{out_rec, out_option}
+use Rattle.cm_value.proofs.Declared.{both}
 use Rattle.cm_value.proofs.Folds.{fold-elem, fold-int, fold-tag, fold-rec, fold-none, fold-some}
 
 module _ (t : Tables) (u : Ty) where
@@ -34,10 +34,6 @@ module _ (t : Tables) (u : Ty) where
 
   pub member-some : (v : Value) → is_value_of t u (value.Some v) ≡ is_some_of (out-Ty u) (member_of t v)
   member-some v = ap at_type (fold-some (member_step t) v)
-
-both : (a b : Bool) → (a && b) ≡ true → (a ≡ true) × (b ≡ true)
-both true b e = (refl, e)
-both false b e = absurd (cc)
 
 -- a value among values of these types is one of its type
 pub value_at : (t : Tables) (tys : List Ty) (vs : List Value) (i : ℕ) (u : Ty) (v : Value) → IsTrue (are_values_of t tys vs)

@@ -1,5 +1,5 @@
 -- What a relabelled value is.
-use Rattle.std.proofs.Common.{◌≡◌, ℕ, ℤ, ◌==◌, Bool, true, false, not, ◌&&◌, ◌||◌, if◌then◌else◌, List, [], ◌∷◌, map, Option, Some, None, slice_get, IsTrue, refl, sym, ap, ◌∙◌, subst, arith}
+use Rattle.std.proofs.Common.{◌≡◌, ℕ, ℤ, ◌==◌, Bool, true, false, not, ◌&&◌, ◌||◌, if◌then◌else◌, List, [], ◌∷◌, map, Option, Some, None, slice_get, IsTrue, refl, sym, ap, ◌∙◌, arith}
 use Rattle.std.proofs.lemmas.Bool.Decides.{nat_tests}
 use Rattle.cm_model.specs.Tables.{Tables}
 use Rattle.cm_model.specs.declared.ty.Ty.{Ty, out-Ty}
@@ -8,10 +8,10 @@ use Rattle.cm_model.specs.declared.ty.RecDecl.{RecDecl}
 use Rattle.cm_value.specs.declared.value.Swap.{Swap}
 use Rattle.cm_value.specs.declared.value.Value.{Value}
 use Rattle.cm_value.specs.declared.value.Value.TheVariants as value
-use Rattle.cm_value.specs.Membership.{Member, field_types, member_of, are_members, is_value_of, is_sort, is_some_of, is_record_of, has_fields}
+use Rattle.cm_value.specs.Membership.{Member, field_types, member_of, are_members, is_value_of, is_some_of, is_record_of, has_fields}
 use Rattle.cm_value.specs.Relabelling.{LacksBoth, relabelled, Relabel, swapped, relabel_of, relabel_step, each_relabelled, is_of_sort, types_of_fields, type_of_payload, Stands, stands_in_one, stands_step, stands_of}
 use Rattle.cm_value.proofs.Folds.{fold-elem, fold-int, fold-tag, fold-rec, fold-none, fold-some}
-use Rattle.cm_value.proofs.Members.{member-elem, member-int, member-tag, member-rec, member-none, member-some}
+use Rattle.cm_value.proofs.Members.{member-elem, member-rec, member-some}
 use Rattle.cm_value.proofs.Induction.{Each, value_ind}
 
 swapped_twice : (x y n : ℕ) → swapped x y (swapped x y n) ≡ n
@@ -73,7 +73,7 @@ module _ (t : Tables) (by : Swap) where
       (λ n o. ap (again o) (relabel-int o n) ∙ relabel-int o n)
       (λ n o. ap (again o) (relabel-tag o n) ∙ relabel-tag o n)
       (λ vs back o. ap (again o) (relabel-rec o vs) ∙ relabel-rec o (each_relabelled (map (relabel_of t by) vs) (types_of_fields t o))
-          ∙ ap value.Rec (all_back vs (types_of_fields t o) back))
+      ∙ ap value.Rec (all_back vs (types_of_fields t o) back))
       (λ o. ap (again o) (relabel-none o) ∙ relabel-none o)
       (λ v back o. ap (again o) (relabel-some o v) ∙ relabel-some o (relabel_of t by v (type_of_payload o)) ∙ ap value.Some (back (type_of_payload o)))
 
@@ -117,13 +117,13 @@ module _ (t : Tables) (by : Swap) where
       (λ n o u. ap (is_value_of t u) (relabel-int o n))
       (λ n o u. ap (is_value_of t u) (relabel-tag o n))
       (λ vs alike o u. ap (is_value_of t u) (relabel-rec o vs) ∙ member-rec t u (each_relabelled (map (relabel_of t by) vs) (types_of_fields t o))
-          ∙ same_record (map (member_of t) (each_relabelled (map (relabel_of t by) vs) (types_of_fields t o))) (map (member_of t) vs)
-          (λ us. all_alike vs (types_of_fields t o) us alike) (out-Ty u)
-          ∙ sym (member-rec t u vs))
+      ∙ same_record (map (member_of t) (each_relabelled (map (relabel_of t by) vs) (types_of_fields t o))) (map (member_of t) vs)
+      (λ us. all_alike vs (types_of_fields t o) us alike) (out-Ty u)
+      ∙ sym (member-rec t u vs))
       (λ o u. ap (is_value_of t u) (relabel-none o))
       (λ v alike o u. ap (is_value_of t u) (relabel-some o v) ∙ member-some t u (relabel_of t by v (type_of_payload o))
-          ∙ same_some (member_of t (relabel_of t by v (type_of_payload o))) (member_of t v) (alike (type_of_payload o)) (out-Ty u)
-          ∙ sym (member-some t u v))
+      ∙ same_some (member_of t (relabel_of t by v (type_of_payload o))) (member_of t v) (alike (type_of_payload o)) (out-Ty u)
+      ∙ sym (member-some t u v))
 
   -- a value in which neither element stands stays as it is
   abbrev neither : Value → Option Ty → Type 0

@@ -1,5 +1,5 @@
 -- What has no type stays as it is.
-use Rattle.std.proofs.Common.{◌≡◌, ℕ, ℤ, List, [], ◌∷◌, map, Option, Some, None, refl, sym, ap, ◌∙◌, subst}
+use Rattle.std.proofs.Common.{◌≡◌, List, [], ◌∷◌, map, None, refl, ap, ◌∙◌}
 use Rattle.cm_model.specs.Tables.{Tables}
 use Rattle.cm_value.specs.declared.value.Swap.{Swap}
 use Rattle.cm_value.specs.declared.value.Value.{Value}

@@ -1,5 +1,5 @@
 -- The least value of a type.
-use Rattle.std.specs.Prelude.{ℕ, ℤ, pos, List, [], map, slice_get, Option, Some, None}
+use Rattle.std.specs.Prelude.{ℤ, pos, List, [], map, slice_get, Option, Some, None}
 use Rattle.cm_model.specs.Tables.{Tables}
 use Rattle.cm_model.specs.Types.{record_values}
 use Rattle.cm_model.specs.declared.ty.Ty.{Ty, out-Ty}

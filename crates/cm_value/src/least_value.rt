@@ -3,7 +3,7 @@ ghost use Rattle.cm_model.specs.Types.{IsType};
 ghost use Rattle.cm_value.specs.Membership.{IsValueOf};
 ghost use Rattle.cm_value.specs.Least.{least_of, least_in, least_records, lowest, or_empty};
 
-use crate::{Value, Vals};
+use crate::{Vals, Value};
 use cm_model::{IntDecl, List, Model, NoMemory, Part, RecDecl, Ty};
 use std::alloc::Global;
 
@@ -17,7 +17,12 @@ pub fn least(alloc: Global, model: &Model, ty: &Ty) -> Result<Value, NoMemory>
     ensures of_the_type { IfOk result (λ value. IsValueOf model.now ty.now value) }
 {
     model.well_typed();
-    let value = least_in(alloc, model.ints().as_slice(), model.records().as_slice(), ty)?;
+    let value = least_in(
+        alloc,
+        model.ints().as_slice(),
+        model.records().as_slice(),
+        ty,
+    )?;
     Ok(value)
 }
 

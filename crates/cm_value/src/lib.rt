@@ -18,4 +18,7 @@ pub use copy::copy_value;
 pub use least_value::least;
 pub use membership::member;
 pub use relabelling::relabel;
-pub use value::{Swap, Value, Vals};
+pub use value::{Swap, Vals, Value};
+
+#[cfg(test)]
+mod tests;

@@ -1,10 +1,11 @@
-ghost use Rattle.std.specs.Prelude.{◌≡◌, ◌↔◌, IsTrue, map, slice_get, length};
+ghost use Rattle.std.specs.Prelude.{◌≡◌, ◌↔◌, IsTrue, map, slice_get};
 ghost use Rattle.cm_value.specs.Membership.{is_value_of, IsValueOf, member_of, are_members, has_fields, is_within, has_variant};
 
 use crate::Value;
 use cm_model::{EnumDecl, IntDecl, Model, Part, Ty};
 
-/// Whether a value is one of a type. It is none of a type that the model doesn't declare.
+/// Whether a value is one of a type. A sort, integer type, enum or record that the model doesn't declare
+/// has no values.
 pub fn member(model: &Model, ty: &Ty, v: &Value) -> bool
     ensures exact { IsTrue result ↔ IsValueOf model.now ty.now v.now }
 {

@@ -4,7 +4,7 @@ ghost use Rattle.cm_model.specs.declared.ty.Ty.{out-Ty};
 ghost use Rattle.cm_value.specs.Membership.{IsValueOf};
 ghost use Rattle.cm_value.specs.Relabelling.{LacksBoth, relabelled, relabel_of, swapped, each_relabelled, is_sort_form, types_form, types_in, payload_form};
 
-use crate::{Swap, Value, Vals, copy_value};
+use crate::{Swap, Vals, Value, copy_value};
 use cm_model::{Boxed, List, Model, NoMemory, Part, RecDecl, Ty};
 use std::alloc::Global;
 

@@ -1,19 +1,16 @@
-use Rattle.std.proofs.Common.{rules, ◌≡◌, ℕ, ◌+◌, ◌*◌, ◌≤◌, ◌+ℤ◌, Bool, true, false, not, List, [], ◌∷◌, ◌++◌, map, drop, take, length, Option, Some, None, IfSome, IsTrue, slice_get, refl, sym, ap, ◌∙◌, subst, arith, if◌then◌else◌, to_z, of_z, w64}
-use Rattle.std.proofs.lemmas.Grind.{common_steps}
+use Rattle.std.proofs.Common.{rules, ◌≡◌, ◌+◌, ◌*◌, ◌≤◌, ◌+ℤ◌, true, false, not, [], ◌∷◌, ◌++◌, map, drop, take, length, Some, None, IfSome, IsTrue, slice_get, refl, sym, ap, ◌∙◌, subst, arith, if◌then◌else◌, to_z, of_z, w64}
 use denote.Param.Weighed.{most, at_most}
-use Rattle.cm_model.specs.declared.body.Expr.{Expr, size-Expr}
-use Rattle.cm_model.specs.declared.body.SetField.{SetField, size-SetField}
+use Rattle.cm_model.specs.declared.body.Expr.TheViews.{the_lemmas}
+use Rattle.cm_model.specs.declared.body.Expr.{size-Expr}
 use Rattle.cm_model.specs.declared.body.Expr.TheVariants as expr
-use Rattle.cm_model.specs.declared.body.Stmt.TheVariants as stmt
-use Rattle.cm_value.specs.declared.value.Value.{Value}
 use Rattle.cm_value.specs.declared.value.Value.TheVariants as value
 use Rattle.cm_value.specs.Limits.{is_limited}
 use Rattle.cm_eval.specs.declared.operand.Operand.TheVariants as operand
 use Rattle.cm_eval.specs.Script.{Blocks, Reads, Writes, given}
-use Rattle.cm_eval.specs.State.{look_up, put, marked}
+use Rattle.cm_eval.specs.State.{look_up, put}
 use Rattle.cm_eval.specs.Comparison.{option_of}
 use Rattle.cm_eval.specs.Limits.{IsNear, are_limited, reach_of, stmt_reach, body_reach, key_reach}
-use Rattle.cm_eval.specs.Evaluation.{Doing, Called, called, meanings, body_of, let_of, set_of, write_of, if_of, case_of, assume_of, return_of, branch_of, some_branch_of, case_branch, opened, named, valued, numbered, inspected, inspects, number_of, value_of, compares_by, values_of, all_of, any_of, sets_of, value_at, with_field, opens, replaced_of, into_type, read_of, fields_of, with_of, make_of, some_of, into_of, compare_of, not_of, apply_of, fun_at, flag}
+use Rattle.cm_eval.specs.Evaluation.{Doing, Called, called, meanings, body_of, let_of, write_of, if_of, case_of, assume_of, return_of, branch_of, some_branch_of, case_branch, opened, named, valued, inspected, inspects, number_of, value_of, compares_by, values_of, all_of, any_of, sets_of, value_at, with_field, opens, replaced_of, into_type, read_of, fields_of, with_of, make_of, some_of, into_of, compare_of, not_of, apply_of, fun_at, flag}
 use Rattle.cm_eval.specs.Run.{logged, run}
 use Rattle.cm_model.specs.declared.body.Call.{Call}
 use Rattle.cm_eval.specs.Going.{Touches, Asks, block_in, stopped, goes_on, doing_of, funs_of, sets_in, turn_in}
@@ -23,9 +20,9 @@ use Rattle.cm_eval.proofs.Measures.{key_depth, depth_of, block_depth}
 use Rattle.cm_eval.proofs.Functions.{function_meaning, no_function}
 use Rattle.cm_eval.proofs.Touching.{read_gives, read_halts, write_goes, write_halts, asks_some, asks_none}
 use Rattle.cm_eval.specs.declared.flow.Flow.TheVariants as flow
-use Rattle.cm_eval.proofs.Nodes.{node_num, node_tag, node_local, node_whole, node_read, node_fields, node_with, node_make, node_none, node_some, node_shift, node_into, node_compare, node_all, node_any, node_not, node_apply, turn_let, turn_set, turn_if, turn_case, turn_assume, turn_return}
+use Rattle.cm_eval.proofs.Nodes.{node_num, node_tag, node_local, node_whole, node_read, node_fields, node_with, node_make, node_none, node_some, node_into, node_compare, node_not, node_apply, turn_set, turn_if, turn_case}
 use Rattle.cm_eval.proofs.Steps.{thus, halt, gives, blocks, out, stuck, opt, mapped, answers, means, turn, unroll, no_more, ended, renamed, turn_ends, turn_halts, turn_goes, turn_means, turn_locals, turn_scoped, turn_same, wrote, block_next, block_reply, block_blocked, outer_kept, take_front}
-use Rattle.cm_eval.proofs.Near.{near_of, near_more, near_sum, number_near, wide, wide_number, reach_number, fitting_number, fitting_of, sets_small, sets_fit}
+use Rattle.cm_eval.proofs.Near.{near_of, near_sum, wide, wide_number, reach_number, fitting_number, fitting_of, sets_small, sets_fit}
 use Rattle.cm_eval.proofs.+evaluate.Goals as goal
 
 pub cells::ask-returns-in-Some-2 : goal.cells::ask-returns-in-Some-2
@@ -47,16 +44,21 @@ pub cells::write-touch-requires : goal.cells::write-touch-requires
 cells::write-touch-requires t c = (omega (arith, c.decreases, found_summed (λ d. 8 * key_depth d.inv + 8) c.args.rules.states.now c.from.result c.in-Some.declared.now (got c.args.rules.states.now c.from.result c.in-Some.declared.now c.in-Some.ensures.lookup.0 c.in-Some.ensures.lookup.1)), (c.requires.rules, (found_within (λ d. key_reach d.inv) c.args.rules.states.now c.from.result 65 c.in-Some.declared.now (got c.args.rules.states.now c.from.result c.in-Some.declared.now c.in-Some.ensures.lookup.0 c.in-Some.ensures.lookup.1) c.requires.rules.1, c.in-Some-value.ensures.limited)))
 
 pub cells::write-returns-in_ok-set-in-Some-2 : goal.cells::write-returns-in_ok-set-in-Some-2
-cells::write-returns-in_ok-set-in-Some-2 t c = record { puts = λ d.
-    write_goes c.args.rules c.args.cell c.in-Some.declared.now c.in-Some-value.before.now c.args.state.now c.args.log.now c.touch.new.log c.in_ok-at.field-0 (ap (slice_get c.args.rules.states.now) (sym c.from.ensures) ∙ (got c.args.rules.states.now c.from.result c.in-Some.declared.now c.in-Some.ensures.lookup.0 c.in-Some.ensures.lookup.1)) (ap (λ k. look_up c.args.state.now (named c.args.cell.state k)) (sym c.as_ref.ensures.value) ∙ sym c.in-Some-value.ensures.value) (subst (λ n. Touches c.args.rules c.in-Some.declared.now c.in-Some-value.before.now n c.in_ok-at.field-0 c.args.log.now c.touch.new.log) c.in_ok-name.ensures.equal c.in_ok-at.ensures.touches) c.args.value c.in-Some-2.at c.in-Some-2.is d
-    ∙ ap (λ w. logged c.touch.new.log.steps (run c.args.rules.ints.now c.args.rules.states.now (put c.args.state.now c.args.cell c.args.value) (record { cells = c.touch.new.log.cells; written = w }) d)) (sym c.mark.ensures.marked)
-    ∙ ap (λ u. logged c.touch.new.log.steps (run c.args.rules.ints.now c.args.rules.states.now u (record { cells = c.touch.new.log.cells; written = c.mark.new.written }) d)) (sym c.in_ok-set-in-Some-2.ensures.ok) }
+cells::write-returns-in_ok-set-in-Some-2 t c = record {
+  puts = λ d.
+      write_goes c.args.rules c.args.cell c.in-Some.declared.now c.in-Some-value.before.now c.args.state.now c.args.log.now c.touch.new.log c.in_ok-at.field-0 (ap (slice_get c.args.rules.states.now) (sym c.from.ensures) ∙ (got c.args.rules.states.now c.from.result c.in-Some.declared.now c.in-Some.ensures.lookup.0 c.in-Some.ensures.lookup.1)) (ap (λ k. look_up c.args.state.now (named c.args.cell.state k)) (sym c.as_ref.ensures.value) ∙ sym c.in-Some-value.ensures.value) (subst (λ n. Touches c.args.rules c.in-Some.declared.now c.in-Some-value.before.now n c.in_ok-at.field-0 c.args.log.now c.touch.new.log) c.in_ok-name.ensures.equal c.in_ok-at.ensures.touches) c.args.value c.in-Some-2.at c.in-Some-2.is d
+      ∙ ap (λ w. logged c.touch.new.log.steps (run c.args.rules.ints.now c.args.rules.states.now (put c.args.state.now c.args.cell c.args.value) (record { cells = c.touch.new.log.cells; written = w }) d)) (sym c.mark.ensures.marked)
+      ∙ ap (λ u. logged c.touch.new.log.steps (run c.args.rules.ints.now c.args.rules.states.now u (record { cells = c.touch.new.log.cells; written = c.mark.new.written }) d)) (sym c.in_ok-set-in-Some-2.ensures.ok);
+}
 
 pub cells::write-returns-in-None : goal.cells::write-returns-in-None
 cells::write-returns-in-None t c = record { puts = write_halts c.args.rules c.args.cell c.in-Some.declared.now c.in-Some-value.before.now c.args.state.now c.args.log.now c.touch.new.log c.in_ok-at.field-0 (ap (slice_get c.args.rules.states.now) (sym c.from.ensures) ∙ (got c.args.rules.states.now c.from.result c.in-Some.declared.now c.in-Some.ensures.lookup.0 c.in-Some.ensures.lookup.1)) (ap (λ k. look_up c.args.state.now (named c.args.cell.state k)) (sym c.as_ref.ensures.value) ∙ sym c.in-Some-value.ensures.value) (subst (λ n. Touches c.args.rules c.in-Some.declared.now c.in-Some-value.before.now n c.in_ok-at.field-0 c.args.log.now c.touch.new.log) c.in_ok-name.ensures.equal c.in_ok-at.ensures.touches) c.args.value c.in-None.is }
 
 pub expr::evaluate-evaluate_with-requires : goal.expr::evaluate-evaluate_with-requires
-expr::evaluate-evaluate_with-requires t c = (?, (c.requires.rules, (subst (λ o. IfSome o (λ v. IsTrue (is_limited v))) c.in-Some-2.is c.in_ok-v-in-With.ensures.limited, (sets_small c.args.e.now c.in-With.of c.in-With.sets c.as_slice-in-Some-2.result.now c.in-With.is c.as_slice-in-Some-2.ensures c.requires.reach, c.requires.locals))))
+expr::evaluate-evaluate_with-requires t c =
+    let limited = subst (λ o. IfSome o (λ v. IsTrue (is_limited v))) c.in-Some-2.is c.in_ok-v-in-With.ensures.limited in
+    let small = sets_small c.args.e.now c.in-With.of c.in-With.sets c.as_slice-in-Some-2.result.now c.in-With.is c.as_slice-in-Some-2.ensures c.requires.reach in
+    search (rules, the_lemmas)
 
 pub expr::evaluate-returns-in-Num-clause-gives : goal.expr::evaluate-returns-in-Num-clause-gives
 expr::evaluate-returns-in-Num-clause-gives t c = means c.args.locals.now (ap (doing_of c.args.rules) c.in-Num.is ∙ node_num c.args.rules c.in-Num.n) (answers (ap (λ n. Some (operand.Number n)) (wide_number c.in-Num.n (reach_number c.in-Num.n (subst (λ e. reach_of e ≤ 65) c.in-Num.is c.requires.reach)))) (gives (λ k. k (operand.Number c.in-Num.n)) (operand.Number c.in-Num.n) (λ k. refl)))
@@ -197,7 +199,9 @@ pub expr::evaluate_read-returns-in-None-clause-gives : goal.expr::evaluate_read-
 expr::evaluate_read-returns-in-None-clause-gives t c = halt (λ cell k. Reads cell (λ v. k (operand.Plain v))) c.in_ok-cell.ensures.gives c.in-None.is
 
 pub expr::evaluate_sets-evaluate_value-requires : goal.expr::evaluate_sets-evaluate_value-requires
-expr::evaluate_sets-evaluate_value-requires t c = (?, (c.requires.rules, (item_within (λ s. reach_of s.value) c.args.sets.now c.loop-set.set-index 65 c.set-item.result c.loop-set-test.true c.set-item.is c.requires.reach, c.requires.locals)))
+expr::evaluate_sets-evaluate_value-requires t c =
+    let small = item_within (λ s. reach_of s.value) c.args.sets.now c.loop-set.set-index 65 c.set-item.result c.loop-set-test.true c.set-item.is c.requires.reach in
+    search (rules, the_lemmas)
 
 pub expr::evaluate_sets-returns-in-None-with_field-clause-gives : goal.expr::evaluate_sets-returns-in-None-with_field-clause-gives
 expr::evaluate_sets-returns-in-None-with_field-clause-gives t c = ended (sets_of c.args.of (sets_in c.args.rules c.args.sets.now) c.args.locals.now) _ (λ k. valued (doing_of c.args.rules c.set-item.result.value) c.args.locals.now (λ w. given (with_field c.loop-set.record c.set-item.result.field w) (λ u. sets_of u (sets_in c.args.rules (drop (c.loop-set.set-index + 1) c.args.sets.now)) c.args.locals.now k))) (λ k. sym (ap (goes_on c.args.rules c.loop-set.state c.loop-set.log) (unroll {Y = Doing} (λ ss. sets_of c.loop-set.record (sets_in c.args.rules ss) c.args.locals.now k) c.args.sets.now c.loop-set.set-index c.set-item.result c.loop-set-test.true c.set-item.is)) ∙ c.loop-set.invariant.0 k) (stuck (λ w k. given (with_field c.loop-set.record c.set-item.result.field w) (λ u. sets_of u (sets_in c.args.rules (drop (c.loop-set.set-index + 1) c.args.sets.now)) c.args.locals.now k)) c.in-Some.w c.in_ok-w.ensures.gives c.in-Some.is (λ k. ap (λ o. given o (λ u. sets_of u (sets_in c.args.rules (drop (c.loop-set.set-index + 1) c.args.sets.now)) c.args.locals.now k)) (sym c.with_field.ensures.field ∙ c.in-None-with_field.is)))
@@ -206,11 +210,13 @@ pub expr::evaluate_sets-returns-in-None-clause-gives : goal.expr::evaluate_sets-
 expr::evaluate_sets-returns-in-None-clause-gives t c = ended (sets_of c.args.of (sets_in c.args.rules c.args.sets.now) c.args.locals.now) _ (λ k. valued (doing_of c.args.rules c.set-item.result.value) c.args.locals.now (λ w. given (with_field c.loop-set.record c.set-item.result.field w) (λ u. sets_of u (sets_in c.args.rules (drop (c.loop-set.set-index + 1) c.args.sets.now)) c.args.locals.now k))) (λ k. sym (ap (goes_on c.args.rules c.loop-set.state c.loop-set.log) (unroll {Y = Doing} (λ ss. sets_of c.loop-set.record (sets_in c.args.rules ss) c.args.locals.now k) c.args.sets.now c.loop-set.set-index c.set-item.result c.loop-set-test.true c.set-item.is)) ∙ c.loop-set.invariant.0 k) (halt (λ w k. given (with_field c.loop-set.record c.set-item.result.field w) (λ u. sets_of u (sets_in c.args.rules (drop (c.loop-set.set-index + 1) c.args.sets.now)) c.args.locals.now k)) c.in_ok-w.ensures.gives c.in-None.is)
 
 pub expr::evaluate_sets-loop-set-preserved : goal.expr::evaluate_sets-loop-set-preserved
-expr::evaluate_sets-loop-set-preserved t c = (turn c.args.rules (valued (doing_of c.args.rules c.set-item.result.value) c.args.locals.now) c.in_ok-w.field-0 c.loop-set.state c.evaluate_value.new.state c.loop-set.log c.evaluate_value.new.log (λ k. goes_on c.args.rules c.args.state.now c.args.log.now ((sets_of c.args.of (sets_in c.args.rules c.args.sets.now) c.args.locals.now) k)) (λ w k. given (with_field c.loop-set.record c.set-item.result.field w) (λ u. sets_of u (sets_in c.args.rules (drop (c.loop-set.set-index + 1) c.args.sets.now)) c.args.locals.now k)) c.in_ok-w.ensures.gives (λ k. sym (ap (goes_on c.args.rules c.loop-set.state c.loop-set.log) (unroll {Y = Doing} (λ ss. sets_of c.loop-set.record (sets_in c.args.rules ss) c.args.locals.now k) c.args.sets.now c.loop-set.set-index c.set-item.result c.loop-set-test.true c.set-item.is)) ∙ c.loop-set.invariant.0 k) c.in-Some.w (sets_of c.in-Some-with_field.next (sets_in c.args.rules (drop (c.loop-set.set-index + 1) c.args.sets.now)) c.args.locals.now) c.in-Some.is (λ k. ap (λ o. given o (λ u. sets_of u (sets_in c.args.rules (drop (c.loop-set.set-index + 1) c.args.sets.now)) c.args.locals.now k)) (sym c.with_field.ensures.field ∙ c.in-Some-with_field.is)),
-    subst (λ o. IfSome o (λ v. IsTrue (is_limited v))) c.in-Some-with_field.is c.with_field.ensures.limited)
+expr::evaluate_sets-loop-set-preserved t c = (
+  turn c.args.rules (valued (doing_of c.args.rules c.set-item.result.value) c.args.locals.now) c.in_ok-w.field-0 c.loop-set.state c.evaluate_value.new.state c.loop-set.log c.evaluate_value.new.log (λ k. goes_on c.args.rules c.args.state.now c.args.log.now ((sets_of c.args.of (sets_in c.args.rules c.args.sets.now) c.args.locals.now) k)) (λ w k. given (with_field c.loop-set.record c.set-item.result.field w) (λ u. sets_of u (sets_in c.args.rules (drop (c.loop-set.set-index + 1) c.args.sets.now)) c.args.locals.now k)) c.in_ok-w.ensures.gives (λ k. sym (ap (goes_on c.args.rules c.loop-set.state c.loop-set.log) (unroll {Y = Doing} (λ ss. sets_of c.loop-set.record (sets_in c.args.rules ss) c.args.locals.now k) c.args.sets.now c.loop-set.set-index c.set-item.result c.loop-set-test.true c.set-item.is)) ∙ c.loop-set.invariant.0 k) c.in-Some.w (sets_of c.in-Some-with_field.next (sets_in c.args.rules (drop (c.loop-set.set-index + 1) c.args.sets.now)) c.args.locals.now) c.in-Some.is (λ k. ap (λ o. given o (λ u. sets_of u (sets_in c.args.rules (drop (c.loop-set.set-index + 1) c.args.sets.now)) c.args.locals.now k)) (sym c.with_field.ensures.field ∙ c.in-Some-with_field.is)),
+  subst (λ o. IfSome o (λ v. IsTrue (is_limited v))) c.in-Some-with_field.is c.with_field.ensures.limited,
+)
 
 pub expr::evaluate_shift-returns-in-Some-clause-gives : goal.expr::evaluate_shift-returns-in-Some-clause-gives
-expr::evaluate_shift-returns-in-Some-clause-gives t c = 
+expr::evaluate_shift-returns-in-Some-clause-gives t c =
     let near = (near_of (reach_of c.args.e.now) c.in_ok-n.field-0 c.in-Some.n c.in-Some.is c.in_ok-n.ensures.near) in
     let plain : c.sum.result ≡ c.in-Some.n +ℤ c.args.by = c.sum.ensures.sum ∙ ap (λ n. n +ℤ to_z w64 (of_z w64 c.args.by)) (wide (reach_of c.args.e.now) c.in-Some.n (omega (arith, c.requires.reach)) near) ∙ ap (λ n. c.in-Some.n +ℤ n) (wide_number c.args.by c.requires.by) in
     let far = near_sum (reach_of c.args.e.now) c.in-Some.n c.args.by near c.requires.by in
@@ -218,7 +224,7 @@ expr::evaluate_shift-returns-in-Some-clause-gives t c =
     answers (ap (λ n. Some (operand.Number n)) whole) (out (λ n k. k (operand.Number (n +ℤ c.args.by))) c.in-Some.n _ c.in_ok-n.ensures.gives c.in-Some.is (λ k. refl))
 
 pub expr::evaluate_shift-returns-in-Some-clause-fits : goal.expr::evaluate_shift-returns-in-Some-clause-fits
-expr::evaluate_shift-returns-in-Some-clause-fits t c = 
+expr::evaluate_shift-returns-in-Some-clause-fits t c =
     let near = (near_of (reach_of c.args.e.now) c.in_ok-n.field-0 c.in-Some.n c.in-Some.is c.in_ok-n.ensures.near) in
     let plain : c.sum.result ≡ c.in-Some.n +ℤ c.args.by = c.sum.ensures.sum ∙ ap (λ n. n +ℤ to_z w64 (of_z w64 c.args.by)) (wide (reach_of c.args.e.now) c.in-Some.n (omega (arith, c.requires.reach)) near) ∙ ap (λ n. c.in-Some.n +ℤ n) (wide_number c.args.by c.requires.by) in
     let far = near_sum (reach_of c.args.e.now) c.in-Some.n c.args.by near c.requires.by in
@@ -250,8 +256,10 @@ pub expr::evaluate_values-returns-in-None-clause-gives : goal.expr::evaluate_val
 expr::evaluate_values-returns-in-None-clause-gives t c = ended (values_of [] (map (doing_of c.args.rules) c.args.es.now) c.args.locals.now) _ (λ k. valued (doing_of c.args.rules c.e-item.result) c.args.locals.now (λ v. values_of (c.loop-e.values ++ v ∷ []) (map (doing_of c.args.rules) (drop (c.loop-e.e-index + 1) c.args.es.now)) c.args.locals.now k)) (λ k. sym (ap (goes_on c.args.rules c.loop-e.state c.loop-e.log) (unroll {Y = Doing} (λ es. values_of c.loop-e.values (map (doing_of c.args.rules) es) c.args.locals.now k) c.args.es.now c.loop-e.e-index c.e-item.result c.loop-e-test.true c.e-item.is)) ∙ c.loop-e.invariant.0 k) (halt (λ v k. values_of (c.loop-e.values ++ v ∷ []) (map (doing_of c.args.rules) (drop (c.loop-e.e-index + 1) c.args.es.now)) c.args.locals.now k) c.in_ok-v.ensures.gives c.in-None.is)
 
 pub expr::evaluate_values-loop-e-preserved : goal.expr::evaluate_values-loop-e-preserved
-expr::evaluate_values-loop-e-preserved t c = (turn c.args.rules (valued (doing_of c.args.rules c.e-item.result) c.args.locals.now) c.in_ok-v.field-0 c.loop-e.state c.evaluate_value.new.state c.loop-e.log c.evaluate_value.new.log (λ k. goes_on c.args.rules c.args.state.now c.args.log.now (values_of [] (map (doing_of c.args.rules) c.args.es.now) c.args.locals.now k)) (λ v k. values_of (c.loop-e.values ++ v ∷ []) (map (doing_of c.args.rules) (drop (c.loop-e.e-index + 1) c.args.es.now)) c.args.locals.now k) c.in_ok-v.ensures.gives (λ k. sym (ap (goes_on c.args.rules c.loop-e.state c.loop-e.log) (unroll {Y = Doing} (λ es. values_of c.loop-e.values (map (doing_of c.args.rules) es) c.args.locals.now k) c.args.es.now c.loop-e.e-index c.e-item.result c.loop-e-test.true c.e-item.is)) ∙ c.loop-e.invariant.0 k) c.in-Some.v (values_of c.push.new.self (map (doing_of c.args.rules) (drop (c.loop-e.e-index + 1) c.args.es.now)) c.args.locals.now) c.in-Some.is (λ k. ap (λ vs. values_of vs (map (doing_of c.args.rules) (drop (c.loop-e.e-index + 1) c.args.es.now)) c.args.locals.now k) (sym c.in_ok-push-in-Some.ensures.ok)),
-    subst (λ vs. IsTrue (are_limited vs)) (sym c.in_ok-push-in-Some.ensures.ok) (all_push is_limited c.loop-e.values c.in-Some.v c.loop-e.invariant.1 (subst (λ o. IfSome o (λ v. IsTrue (is_limited v))) c.in-Some.is c.in_ok-v.ensures.limited)))
+expr::evaluate_values-loop-e-preserved t c = (
+  turn c.args.rules (valued (doing_of c.args.rules c.e-item.result) c.args.locals.now) c.in_ok-v.field-0 c.loop-e.state c.evaluate_value.new.state c.loop-e.log c.evaluate_value.new.log (λ k. goes_on c.args.rules c.args.state.now c.args.log.now (values_of [] (map (doing_of c.args.rules) c.args.es.now) c.args.locals.now k)) (λ v k. values_of (c.loop-e.values ++ v ∷ []) (map (doing_of c.args.rules) (drop (c.loop-e.e-index + 1) c.args.es.now)) c.args.locals.now k) c.in_ok-v.ensures.gives (λ k. sym (ap (goes_on c.args.rules c.loop-e.state c.loop-e.log) (unroll {Y = Doing} (λ es. values_of c.loop-e.values (map (doing_of c.args.rules) es) c.args.locals.now k) c.args.es.now c.loop-e.e-index c.e-item.result c.loop-e-test.true c.e-item.is)) ∙ c.loop-e.invariant.0 k) c.in-Some.v (values_of c.push.new.self (map (doing_of c.args.rules) (drop (c.loop-e.e-index + 1) c.args.es.now)) c.args.locals.now) c.in-Some.is (λ k. ap (λ vs. values_of vs (map (doing_of c.args.rules) (drop (c.loop-e.e-index + 1) c.args.es.now)) c.args.locals.now k) (sym c.in_ok-push-in-Some.ensures.ok)),
+  subst (λ vs. IsTrue (are_limited vs)) (sym c.in_ok-push-in-Some.ensures.ok) (all_push is_limited c.loop-e.values c.in-Some.v c.loop-e.invariant.1 (subst (λ o. IfSome o (λ v. IsTrue (is_limited v))) c.in-Some.is c.in_ok-v.ensures.limited)),
+)
 
 pub expr::evaluate_values-returns-clause-gives : goal.expr::evaluate_values-returns-clause-gives
 expr::evaluate_values-returns-clause-gives t c = ended (values_of [] (map (doing_of c.args.rules) c.args.es.now) c.args.locals.now) _ (λ k. k c.loop-e.values) (λ k. sym (ap (goes_on c.args.rules c.loop-e.state c.loop-e.log) (no_more {Y = Doing} (λ es. values_of c.loop-e.values (map (doing_of c.args.rules) es) c.args.locals.now k) c.args.es.now c.loop-e.e-index c.loop-e-test.false)) ∙ c.loop-e.invariant.0 k) (gives (λ k. k c.loop-e.values) c.loop-e.values (λ k. refl))
@@ -266,11 +274,15 @@ pub stmt::call_function-returns-then-at-rules-clause-gives : goal.stmt::call_fun
 stmt::call_function-returns-then-at-rules-clause-gives t c = renamed (λ (f : Called) k. f c.args.args k) (sym (no_function c.args.rules.ints.now c.args.rules.funs.now c.args.fun (omega (arith, c.from-at.ensures, c.if-at-rules.true)))) (blocks (λ k. called None c.args.args k) (λ k. refl))
 
 pub stmt::call_function-run_body-requires : goal.stmt::call_function-run_body-requires
-stmt::call_function-run_body-requires t c = (let summed = take_summed (λ f. 8 * block_depth f.body + 8) c.args.rules.funs.now c.from-at.result c.index-rules-at.result c.if-at-rules.false c.index-rules-at.is in
-    let depth : block_depth c.as_slice.result.now ≡ block_depth c.index-rules-at.result.body = ap block_depth (c.as_slice.ensures ∙ ap (λ (f : Call). f.body) (sym c.index-rules-at.is)) in
-    omega (arith, c.decreases, summed, depth),
-    ((take_within (λ f. body_reach f.body) c.args.rules.funs.now c.from-at.result 65 c.requires.rules.0, c.requires.rules.1, c.requires.rules.2),
-    (subst (λ b. body_reach b ≤ 65) (sym (c.as_slice.ensures ∙ ap (λ (f : Call). f.body) (sym c.index-rules-at.is))) (item_within (λ f. body_reach f.body) c.args.rules.funs.now c.from-at.result 65 c.index-rules-at.result c.if-at-rules.false c.index-rules-at.is c.requires.rules.0), c.requires.args)))
+stmt::call_function-run_body-requires t c = (
+  let summed = take_summed (λ f. 8 * block_depth f.body + 8) c.args.rules.funs.now c.from-at.result c.index-rules-at.result c.if-at-rules.false c.index-rules-at.is in
+      let depth : block_depth c.as_slice.result.now ≡ block_depth c.index-rules-at.result.body = ap block_depth (c.as_slice.ensures ∙ ap (λ (f : Call). f.body) (sym c.index-rules-at.is)) in
+      omega (arith, c.decreases, summed, depth),
+  (
+    (take_within (λ f. body_reach f.body) c.args.rules.funs.now c.from-at.result 65 c.requires.rules.0, c.requires.rules.1, c.requires.rules.2),
+    (subst (λ b. body_reach b ≤ 65) (sym (c.as_slice.ensures ∙ ap (λ (f : Call). f.body) (sym c.index-rules-at.is))) (item_within (λ f. body_reach f.body) c.args.rules.funs.now c.from-at.result 65 c.index-rules-at.result c.if-at-rules.false c.index-rules-at.is c.requires.rules.0), c.requires.args),
+  ),
+)
 
 pub stmt::call_function-returns-clause-gives : goal.stmt::call_function-returns-clause-gives
 stmt::call_function-returns-clause-gives t c = renamed (λ (f : Called) k. f c.args.args k) (sym (ap (λ n. fun_at (funs_of c.args.rules) n) (sym c.from-at.ensures) ∙ function_meaning c.args.rules.ints.now c.args.rules.funs.now c.from-at.result c.index-rules-at.result c.if-at-rules.false c.index-rules-at.is ∙ ap (λ b. body_of c.args.rules.ints.now (meanings c.args.rules.ints.now (take c.from-at.result c.args.rules.funs.now)) b) (sym (c.as_slice.ensures ∙ ap (λ (f : Call). f.body) (sym c.index-rules-at.is))))) (record { on = c.in_ok-r.ensures.gives.on })

@@ -1,5 +1,5 @@
 -- The laws of the exchange, at the value that was made.
-use Rattle.std.proofs.Common.{◌≡◌, Some, sym, subst, ap, ◌∙◌}
+use Rattle.std.proofs.Common.{Some, sym, subst, ap, ◌∙◌}
 use Rattle.cm_value.specs.Membership.{IsValueOf}
 use Rattle.cm_value.specs.Relabelling.{relabelled}
 use Rattle.cm_value.proofs.Relabelled.{relabel_alike, relabel_back, lacks_both}
