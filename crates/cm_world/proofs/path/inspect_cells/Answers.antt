@@ -1,4 +1,5 @@
 use Rattle.std.proofs.Common.{arith, ◌+◌, true, false, get_or, None, refl, sym, subst}
+use Rattle.std.proofs.lemmas.List.{get_or_default}
 use Rattle.cm_world.proofs.Cells.{Keeps, short, on, skips, declared_at}
 use Rattle.cm_eval.specs.declared.log.CellName.{CellName}
 use Rattle.cm_eval.specs.Evaluation.{named}
@@ -22,7 +23,7 @@ cells-preserved c =
         subst (Keeps c.args.left.now c.args.right.now c.args.cells.now c.args.written.now (c.cells.i + 1) c.args.steps.now) (sym w.steps-is)
         (on c.args.left.now c.args.right.now c.args.cells.now c.args.written.now c.cells.i w.index-cells-i.result true c.cells-test.true
         (omega (arith, c.if-i-written.false)) w.index-cells-i.is w.if-written-i.true w.in_ok-inspect_cell.field-0 c.args.steps.now c.cells.steps w.inspect_cell.new.steps
-        c.cells.invariant refl w.in_ok-inspect_cell.ensures.inspects ?)
+        c.cells.invariant refl w.in_ok-inspect_cell.ensures.inspects w.if-not-branch.false)
     | else-written-i w ↦
         let cell : CellName = get_or c.args.cells.now c.cells.i (named 0 None) in
         subst (Keeps c.args.left.now c.args.right.now c.args.cells.now c.args.written.now (c.cells.i + 1) c.args.steps.now) (sym w.steps-is)
