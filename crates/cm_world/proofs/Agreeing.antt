@@ -24,10 +24,10 @@ at_cell t s u c (e ∷ es) all o is none =
 pub agreeing : (t : Tables) (s u : Store) → s.defaults ≡ u.defaults → AllAgree t s u s.exceptions → AllAgree t s u u.exceptions → SameState t s u
 agreeing t s u same left right c =
     at_cell t s u c s.exceptions left (exception_of s.exceptions c) refl (λ none.
-        at_cell t s u c u.exceptions right (exception_of u.exceptions c) refl (λ nor is.
-            ap (λ o. or_default o (slice_get s.defaults c.state)) none
-            ∙ ap (λ ds. slice_get ds c.state) same
-            ∙ sym (ap (λ o. or_default o (slice_get u.defaults c.state)) nor)))
+    at_cell t s u c u.exceptions right (exception_of u.exceptions c) refl (λ nor is.
+    ap (λ o. or_default o (slice_get s.defaults c.state)) none
+    ∙ ap (λ ds. slice_get ds c.state) same
+    ∙ sym (ap (λ o. or_default o (slice_get u.defaults c.state)) nor)))
 
 pub all_agree : (t : Tables) (s u : Store) (es : List Except) → SameState t s u → AllAgree t s u es
 all_agree t s u es same i d lt = same (get_or es i d).cell

@@ -15,12 +15,7 @@ use std::alloc::Global;
 ///
 /// # Errors
 /// `NoMemory` where memory runs out.
-pub fn commutes(
-    alloc: Global,
-    model: &Model,
-    pair: Pair,
-    world: &World,
-) -> Result<bool, NoMemory>
+pub fn commutes(alloc: Global, model: &Model, pair: Pair, world: &World) -> Result<bool, NoMemory>
     requires world { IsWorldOf model.now pair world.now }
     ensures exact { IfOk result (λ b. IsTrue b ↔ Commutes model.now pair world.now) }
 {

@@ -96,11 +96,7 @@ fn inspect_cell(
     ensures inspects { IfOk result (λ on. Inspection (cell_inspected (look_up left.now cell.now) (look_up right.now cell.now)) on steps.old steps.new) }
 {
     let key = cell.key.as_ref();
-    let r = inspect(
-        left.get(cell.state, key),
-        right.get(cell.state, key),
-        steps,
-    )?;
+    let r = inspect(left.get(cell.state, key), right.get(cell.state, key), steps)?;
     Ok(r)
 }
 
@@ -146,11 +142,7 @@ fn inspect(left: &Value, right: &Value, steps: &mut List<u8>) -> Result<bool, No
 
 // Field by field.
 #[cycle(inspect)]
-fn inspect_fields(
-    left: &[Value],
-    right: &[Value],
-    steps: &mut List<u8>,
-) -> Result<bool, NoMemory>
+fn inspect_fields(left: &[Value], right: &[Value], steps: &mut List<u8>) -> Result<bool, NoMemory>
     ensures inspects { IfOk result (λ on. InspectsAll left.now right.now on steps.old steps.new) }
 {
     for i in 0..left.len() {
