@@ -2,3 +2,4 @@ pub mod Forms
 pub mod Made
 pub mod TypedCounters
 pub mod TypedFlags
+pub mod TypedRegisters

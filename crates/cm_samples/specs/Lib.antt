@@ -1,3 +1,4 @@
 pub mod Parts
 pub mod Counters
 pub mod Flags
+pub mod Registers

@@ -96,8 +96,26 @@ pub(crate) fn only_part(alloc: Global, name: &str, ty: Ty) -> Result<List<Part>,
     Ok(parts)
 }
 
-/// A list of one state, which is one cell.
+/// A state that is one cell.
 pub(crate) fn cell(
+    alloc: Global,
+    name: &str,
+    value: Ty,
+    inv: Option<Expr>,
+) -> Result<StateDecl, NoMemory>
+    ensures exact { IfOk result (λ state. state ≡ parts.cell name.now value inv) }
+{
+    let name = Name::from_str(alloc, name)?;
+    Ok(StateDecl {
+        name,
+        key: None,
+        value,
+        inv,
+    })
+}
+
+/// A list of one state, which is one cell.
+pub(crate) fn only_cell(
     alloc: Global,
     name: &str,
     value: Ty,
@@ -105,19 +123,13 @@ pub(crate) fn cell(
 ) -> Result<List<StateDecl>, NoMemory>
     ensures exact { IfOk result (λ states. states ≡ parts.cell name.now value inv ∷ []) }
 {
-    let name = Name::from_str(alloc, name)?;
-    let state = StateDecl {
-        name,
-        key: None,
-        value,
-        inv,
-    };
+    let state = cell(alloc, name, value, inv)?;
     let states = one(alloc, state)?;
     Ok(states)
 }
 
 /// A list of one state, which is a map.
-pub(crate) fn map_from(
+pub(crate) fn only_map(
     alloc: Global,
     name: &str,
     key: Ty,
