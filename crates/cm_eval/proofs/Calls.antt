@@ -1,5 +1,5 @@
 -- A call's run, and an invariant asked alone.
-use Rattle.std.proofs.Common.{◌≡◌, ℕ, Bool, true, false, List, [], ◌∷◌, ◌++◌, Option, Some, None, IsTrue, ◌↔◌, slice_get, refl, sym, ap, ◌∙◌, subst, if◌then◌else◌}
+use Rattle.std.proofs.Common.{◌≡◌, ℕ, Bool, true, false, List, [], ◌∷◌, ◌++◌, Option, Some, None, IsTrue, ◌↔◌, slice_get, refl, sym, ap, ◌∙◌, if◌then◌else◌}
 use Rattle.cm_model.specs.Tables.{Tables}
 use Rattle.cm_model.specs.declared.ty.IntDecl.{IntDecl}
 use Rattle.cm_model.specs.declared.body.Call.{Call}
@@ -11,10 +11,10 @@ use Rattle.cm_eval.specs.declared.log.Log.{Log}
 use Rattle.cm_eval.specs.declared.rules.Rules.{Rules}
 use Rattle.cm_eval.specs.Script.{Replies, Blocks, Decides, Reads, Writes, given}
 use Rattle.cm_eval.specs.State.{Store, Touched, store}
-use Rattle.cm_eval.specs.Evaluation.{Doing, body_of, meanings, call_of, invariant_of}
-use Rattle.cm_eval.specs.Run.{Trace, Blocked, Replied, End, Ended, Stopped, logged, run, evaluation_of, asked, checked, is_true}
+use Rattle.cm_eval.specs.Evaluation.{Doing, body_of, meanings, invariant_of}
+use Rattle.cm_eval.specs.Run.{Blocked, Replied, End, Ended, Stopped, logged, run, evaluation_of, asked, checked, is_true}
 use Rattle.cm_eval.specs.Invariant.{MeetsInvariant, invariant_holds, declared_invariant, replies_true}
-use Rattle.cm_eval.specs.Going.{Gives, Asks, goes_on, stopped, ended_by, touched_of, funs_of}
+use Rattle.cm_eval.specs.Going.{Gives, Asks, stopped, ended_by, touched_of, funs_of}
 
 module _ (t : Tables) (r : Rules) (i : ℕ) (args locals : List Value) (s u : Store) (l after : Log)
     (ints : r.ints.now ≡ t.ints) (funs : r.funs.now ≡ t.funs) (states : r.states.now ≡ t.states) where
@@ -62,5 +62,5 @@ pub meets : (t : Tables) (n : ℕ) (d : StateDecl) (v : Value) (r : Rules) (b : 
     → Asks r d.inv v b l after → IsTrue b ↔ MeetsInvariant t n v
 meets t n d v r b l after declared ints h =
     let says : b ≡ invariant_holds t.ints (declared_invariant (slice_get t.states n)) v =
-        ask_says r d.inv v b l after h ∙ ap (λ x. invariant_holds x d.inv v) ints ∙ sym (ap (λ q. invariant_holds t.ints (declared_invariant q) v) declared) in
+    ask_says r d.inv v b l after h ∙ ap (λ x. invariant_holds x d.inv v) ints ∙ sym (ap (λ q. invariant_holds t.ints (declared_invariant q) v) declared) in
     (λ e. sym says ∙ e, λ e. says ∙ e)

@@ -1,5 +1,5 @@
 -- What well typed tables say of each state.
-use Rattle.std.proofs.Common.{◌≡◌, ℕ, zero, suc, ◌<◌, Bool, true, ◌&&◌, leb, List, [], ◌∷◌, length, get_or, Option, Some, slice_get, IsTrue, subst, arith}
+use Rattle.std.proofs.Common.{◌≡◌, ℕ, zero, suc, ◌<◌, Bool, true, ◌&&◌, leb, List, [], ◌∷◌, length, get_or, arith}
 use Rattle.std.specs.List.{list_all}
 use Rattle.std.proofs.lemmas.Bool.{and_parts}
 use Rattle.cm_model.specs.Tables.{Tables}

@@ -1,10 +1,10 @@
 -- Steps of a comparison of two lists, field by field.
-use Rattle.std.proofs.Common.{◌≡◌, ℕ, ◌+◌, ◌<◌, ◌≤◌, Bool, true, false, List, [], ◌∷◌, map, length, drop, get_or, Option, Some, None, refl, sym, ap, ◌∙◌, subst, if◌then◌else◌, arith}
+use Rattle.std.proofs.Common.{◌≡◌, ℕ, ◌+◌, ◌<◌, ◌≤◌, Bool, true, false, List, [], ◌∷◌, map, length, drop, get_or, Option, Some, None, sym, ap, ◌∙◌, subst, if◌then◌else◌, arith}
 use Rattle.std.proofs.lemmas.List.{drop_more, drop_all}
 use Rattle.cm_value.specs.declared.value.Value.{Value}
 use Rattle.cm_eval.specs.Comparison.{fields_compared}
 use Rattle.cm_eval.specs.State.{Touched}
-use Rattle.cm_eval.specs.Run.{Trace, Blocked, End, Stopped, logged}
+use Rattle.cm_eval.specs.Run.{Trace, Blocked, Stopped, logged}
 use Rattle.cm_eval.specs.Going.{Compares, ComparesAll, compared_in, ended_by}
 
 -- what is left to compare from the i-th field on

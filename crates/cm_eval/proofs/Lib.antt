@@ -15,3 +15,5 @@ pub mod Functions
 pub mod Calls
 pub mod Reaching
 pub mod Fitting
+pub mod RulesFit
+pub mod Examples

@@ -1,5 +1,5 @@
 -- A state's values stay within bounds.
-use Rattle.std.proofs.Common.{◌≡◌, ℕ, zero, suc, ◌<◌, Bool, true, false, ◌&&◌, List, [], ◌∷◌, ◌++◌, slice_set, slice_get, Option, Some, None, IfSome, option_copied, Bor, refl, sym, ap, ◌∙◌, subst}
+use Rattle.std.proofs.Common.{◌≡◌, ℕ, zero, suc, Bool, true, List, [], ◌∷◌, ◌++◌, slice_set, slice_get, Option, Some, None, IfSome, option_copied, Bor, refl, sym, ◌∙◌, subst}
 use Rattle.std.specs.List.{list_all}
 use Rattle.cm_value.specs.declared.value.Value.{Value}
 use Rattle.cm_eval.specs.declared.state.Except.{Except}

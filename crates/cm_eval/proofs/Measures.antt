@@ -1,6 +1,6 @@
 -- How much there is left to do in a run: the depth of what is evaluated, with the bodies of the functions and
 -- the invariants of the states that may come into it.
-use Rattle.std.proofs.Common.{◌≡◌, ℕ, zero, suc, ◌+◌, ◌*◌, ◌<◌, ◌≤◌, max, List, [], ◌∷◌, map, length, take, get_or, Option, Some, None, arith}
+use Rattle.std.proofs.Common.{ℕ, ◌+◌, ◌*◌, max, List, map, Option, Some, None}
 use Rattle.std.specs.List.{sum_by}
 use Rattle.cm_model.specs.Weights.{greatest}
 use Rattle.cm_model.specs.declared.body.Call.{Call}

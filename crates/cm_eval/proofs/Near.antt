@@ -1,5 +1,5 @@
 -- The numbers of expressions are small.
-use Rattle.std.proofs.Common.{◌≡◌, ℕ, ◌+◌, ◌*◌, ◌<◌, ◌≤◌, ℤ, pos, neg_ℤ, int_le, ◌+ℤ◌, ◌≤ℤ◌, max, List, [], ◌∷◌, map, Bool, true, false, ◌&&◌, Option, Some, None, IfSome, IsTrue, to_z, of_z, w64, refl, sym, ap, ◌∙◌, subst, arith, if◌then◌else◌}
+use Rattle.std.proofs.Common.{◌≡◌, ℕ, ◌+◌, ◌≤◌, ℤ, pos, neg_ℤ, int_le, ◌+ℤ◌, ◌≤ℤ◌, max, List, [], ◌∷◌, map, Bool, true, false, Option, Some, None, IfSome, to_z, of_z, w64, refl, sym, ap, ◌∙◌, subst, arith, if◌then◌else◌}
 use Rattle.std.proofs.lemmas.Bool.{and_parts}
 use Rattle.std.proofs.lemmas.Int.{ints, to_z-of_z}
 use Rattle.cm_model.specs.Kinds.{is_number}

@@ -6,12 +6,12 @@ use Rattle.cm_model.specs.declared.body.Op.{Op}
 use Rattle.cm_model.specs.declared.body.SetField.{SetField, fold-SetField, out-SetField, roll-out-SetField, fold-roll-SetField}
 use Rattle.cm_model.specs.declared.body.Expr.{Expr}
 use Rattle.cm_model.specs.declared.body.Expr.TheVariants as expr
-use Rattle.cm_model.specs.declared.body.Expr.TheOpen.{Expr-F, SetField-F}
-use Rattle.cm_model.specs.declared.body.Expr.TheFolds.{fold-Expr, fold-roll-Expr}
+use Rattle.cm_model.specs.declared.body.Expr.TheOpen.{Expr-F}
+use Rattle.cm_model.specs.declared.body.Expr.TheFolds.{fold-roll-Expr}
 use Rattle.cm_model.specs.declared.body.Stmt.{Stmt}
 use Rattle.cm_model.specs.declared.body.Stmt.TheVariants as stmt
 use Rattle.cm_model.specs.declared.body.Stmt.TheOpen.{Stmt-F}
-use Rattle.cm_model.specs.declared.body.Stmt.TheFolds.{fold-Stmt, fold-roll-Stmt}
+use Rattle.cm_model.specs.declared.body.Stmt.TheFolds.{fold-roll-Stmt}
 use Rattle.cm_value.specs.declared.value.Value.TheVariants as value
 use Rattle.cm_eval.specs.declared.rules.Rules.{Rules}
 use Rattle.cm_eval.specs.declared.operand.Operand.TheVariants as operand

@@ -1,9 +1,8 @@
 -- Where a cell's exception is found.
-use Rattle.std.proofs.Common.{◌≡◌, ℕ, zero, suc, ◌+◌, ◌<◌, Bool, true, false, List, [], ◌∷◌, ◌++◌, Option, Some, None, length, slice_set, get_or, refl, sym, ap, ◌∙◌, arith}
-use Rattle.cm_value.specs.declared.value.Value.{Value}
+use Rattle.std.proofs.Common.{◌≡◌, ℕ, zero, suc, ◌<◌, true, false, List, [], ◌∷◌, Some, None, length, get_or, refl, ap, arith}
 use Rattle.cm_eval.specs.declared.log.CellName.{CellName}
 use Rattle.cm_eval.specs.declared.state.Except.{Except}
-use Rattle.cm_eval.specs.State.{same_cell, exception_of, exceptions_with}
+use Rattle.cm_eval.specs.State.{same_cell}
 use Rattle.cm_eval.specs.Places.{Finds}
 use Rattle.cm_eval.proofs.Same.{same_cell_equal}
 

@@ -1,12 +1,12 @@
 -- Values are the same where they are equal.
-use Rattle.std.proofs.Common.{◌≡◌, ℕ, ◌==◌, Bool, true, false, Decides, ◌&&◌, List, [], ◌∷◌, map, ◌↔◌, Option, Some, None, IsTrue, refl, sym, ap, ◌∙◌, subst, arith}
+use Rattle.std.proofs.Common.{◌≡◌, ◌==◌, Bool, true, false, Decides, List, [], ◌∷◌, map, ◌↔◌, Option, Some, None, IsTrue, refl, sym, ap, ◌∙◌, subst, arith}
 use Rattle.std.proofs.lemmas.Bool.{eqb-true, eq-eqb}
 use Rattle.std.proofs.lemmas.Bool.{and_parts, and_from, false_from_ne_true}
 use Rattle.std.proofs.lemmas.Bool.Decides.{Decides-int_eq}
 use Rattle.cm_value.specs.declared.value.Value.{Value, out-Value}
 use Rattle.cm_value.specs.declared.value.Value.TheViews.{roll-Value, roll-out-Value, out-roll-Value}
 use Rattle.cm_value.specs.declared.value.Value.TheOpen.{Value-F}
-use Rattle.cm_value.specs.declared.value.Value.TheFolds.{fold-Value, map-Value}
+use Rattle.cm_value.specs.declared.value.Value.TheFolds.{map-Value}
 use Rattle.cm_eval.specs.declared.log.CellName.{CellName}
 use Rattle.cm_eval.specs.State.{same_value, same_form, all_same, same_key, same_cell}
 use Rattle.cm_eval.proofs.Folds.{fold_related, Related}

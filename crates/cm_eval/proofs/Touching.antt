@@ -1,5 +1,5 @@
 -- What a touch makes of a read and of a write, and an invariant's run beside what is asked of it.
-use Rattle.std.proofs.Common.{◌≡◌, ℕ, ◌==◌, Bool, true, false, List, [], ◌∷◌, ◌++◌, Option, Some, None, slice_get, refl, sym, ap, ◌∙◌, subst, if◌then◌else◌}
+use Rattle.std.proofs.Common.{◌≡◌, ℕ, Bool, true, false, List, [], ◌∷◌, ◌++◌, Option, Some, None, slice_get, refl, sym, ap, ◌∙◌, if◌then◌else◌}
 use Rattle.cm_model.specs.declared.ty.IntDecl.{IntDecl}
 use Rattle.cm_model.specs.declared.body.Expr.{Expr}
 use Rattle.cm_model.specs.declared.body.StateDecl.{StateDecl}
@@ -11,11 +11,10 @@ use Rattle.cm_eval.specs.declared.log.CellName.{CellName}
 use Rattle.cm_eval.specs.declared.log.Log.{Log}
 use Rattle.cm_eval.specs.declared.rules.Rules.{Rules}
 use Rattle.cm_eval.specs.Script.{Replies, Blocks, Decides, Reads, Writes}
-use Rattle.cm_eval.specs.Comparison.{tag_of, tag_in}
 use Rattle.cm_eval.specs.State.{Store, Touched, look_up, put, marked}
 use Rattle.cm_eval.specs.Evaluation.{Doing, bool, meanings, meaning_of, inspected, invariant_of}
-use Rattle.cm_eval.specs.Run.{Trace, Blocked, End, Ended, Stopped, logged, run, touched_at, touched_with, asked, checked, is_true}
-use Rattle.cm_eval.specs.Going.{Gives, Touches, Asks, Puts, goes_on, stopped, ended_by, touched_of, doing_of}
+use Rattle.cm_eval.specs.Run.{Trace, Blocked, End, Ended, Stopped, logged, run, touched_at, touched_with, asked, is_true}
+use Rattle.cm_eval.specs.Going.{Gives, Touches, Asks, goes_on, stopped, ended_by, touched_of, doing_of}
 
 module _ (r : Rules) (c : CellName) (d : StateDecl) (v : Value) (s : Store) (l after : Log) (o : Option ℕ)
     (declared : slice_get r.states.now c.state ≡ Some d) (there : look_up s c ≡ Some v) (touch : Touches r d v c o l after) where

@@ -1,5 +1,5 @@
 -- What expressions, statements, functions and calls do: one rule for each form, operands from left to right.
-use Rattle.std.specs.Prelude.{ℕ, ◌+◌, ◌==◌, ltb, ℤ, ◌+ℤ◌, int_lt, Bool, true, false, not, List, [], ◌∷◌, ◌++◌, map, slice_get, slice_set, length, Option, Some, None, if◌then◌else◌}
+use Rattle.std.specs.Prelude.{ℕ, ◌==◌, ltb, ℤ, ◌+ℤ◌, int_lt, Bool, true, false, not, List, [], ◌∷◌, ◌++◌, map, slice_get, slice_set, length, Option, Some, None, if◌then◌else◌}
 use Rattle.cm_model.specs.Tables.{Tables}
 use Rattle.cm_model.specs.declared.ty.IntDecl.{IntDecl}
 use Rattle.cm_model.specs.declared.body.Op.{Op}
@@ -11,7 +11,6 @@ use Rattle.cm_model.specs.declared.body.Stmt.{Stmt}
 use Rattle.cm_model.specs.declared.body.Stmt.TheOpen.{Stmt-F}
 use Rattle.cm_model.specs.declared.body.Stmt.TheFolds.{fold-Stmt}
 use Rattle.cm_model.specs.declared.body.Call.{Call}
-use Rattle.cm_model.specs.declared.body.StateDecl.{StateDecl}
 use Rattle.cm_value.specs.declared.value.Value.{Value}
 use Rattle.cm_value.specs.declared.value.Value.TheVariants as value
 use Rattle.cm_eval.specs.declared.log.CellName.{CellName}

@@ -1,7 +1,6 @@
 -- What the evaluator's functions say of themselves: a run that was at a script is, after them, at what is
 -- done with what came out.
 use Rattle.std.specs.Prelude.{◌≡◌, ℕ, ◌≤◌, ◌==◌, Bool, true, IsTrue, if◌then◌else◌, List, map, Option, Some, None}
-use Rattle.cm_model.specs.declared.ty.IntDecl.{IntDecl}
 use Rattle.cm_model.specs.declared.body.Expr.{Expr}
 use Rattle.cm_model.specs.declared.body.StateDecl.{StateDecl}
 use Rattle.cm_value.specs.declared.value.Value.{Value}

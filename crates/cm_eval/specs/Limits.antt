@@ -1,6 +1,6 @@
 -- Bounds on numbers: those in the values of a state and of locals are within a million of 0, and at most 65
 -- shifts by as much stand one inside another, so that no sum is large.
-use Rattle.std.specs.Prelude.{◌≡◌, ℕ, ◌+◌, ◌*◌, ◌≤◌, max, ltb, ℤ, pos, neg_ℤ, int_le, ◌≤ℤ◌, Bool, true, false, ◌&&◌, if◌then◌else◌, List, [], ◌∷◌, map, Option, Some, None, IsTrue}
+use Rattle.std.specs.Prelude.{ℕ, ◌+◌, ◌*◌, max, ltb, ℤ, pos, neg_ℤ, ◌≤ℤ◌, Bool, ◌&&◌, if◌then◌else◌, List, map, Option, Some, None, IsTrue}
 use Rattle.std.specs.List.{list_all}
 use Rattle.cm_model.specs.Kinds.{is_number}
 use Rattle.cm_model.specs.Types.{or_else}

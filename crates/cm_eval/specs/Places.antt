@@ -3,7 +3,7 @@ use Rattle.std.specs.Prelude.{◌≡◌, ℕ, ◌<◌, List, [], ◌∷◌, Opti
 use Rattle.cm_value.specs.declared.value.Value.{Value}
 use Rattle.cm_eval.specs.declared.log.CellName.{CellName}
 use Rattle.cm_eval.specs.declared.state.Except.{Except}
-use Rattle.cm_eval.specs.State.{same_cell, exception_of, exceptions_with}
+use Rattle.cm_eval.specs.State.{exception_of, exceptions_with}
 
 -- the first exception for the cell
 abbrev pub Finds : List Except → CellName → Option ℕ → Type 0

@@ -17,3 +17,6 @@ pub use call::{meets_invariant, run_call};
 pub use log::{CellName, Log};
 pub use outcome::{Args, Outcome};
 pub use state::{Except, State};
+
+#[cfg(test)]
+mod tests;

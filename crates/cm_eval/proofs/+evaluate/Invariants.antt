@@ -1,4 +1,4 @@
-use Rattle.std.proofs.Common.{◌≡◌, ℕ, Bool, ◌+◌, ◌*◌, ◌≤◌, max, List, [], map, drop, take, length, IsTrue}
+use Rattle.std.proofs.Common.{◌≡◌, Bool, ◌+◌, ◌*◌, max, List, [], map, drop, take, length, IsTrue}
 use Rattle.cm_model.specs.declared.body.Expr.{size-Expr}
 use Rattle.cm_value.specs.declared.value.Value.{Value}
 use Rattle.cm_value.specs.Limits.{is_limited}

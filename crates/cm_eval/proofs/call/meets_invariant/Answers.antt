@@ -1,7 +1,7 @@
-use Rattle.std.proofs.Common.{◌≡◌, ◌≤◌, Some, slice_get, sym, ap, ◌∙◌}
+use Rattle.std.proofs.Common.{slice_get, sym, ap, ◌∙◌}
 use Rattle.cm_eval.proofs.Calls.{meets}
-use Rattle.cm_eval.proofs.Fitting.{rules_fit}
-use Rattle.cm_eval.proofs.Reaching.{invariant_fits}
+use Rattle.cm_eval.proofs.RulesFit.{rules_fit}
+use Rattle.cm_eval.proofs.Fitting.{invariant_fits}
 use Rattle.cm_eval.proofs.call.meets_invariant.Goals as goal
 
 pub ask-requires-clause-rules : goal.ask-requires-clause-rules

@@ -1,10 +1,10 @@
-use Rattle.std.proofs.Common.{◌≡◌, ◌≤◌, Some, None, slice_get, sym, ap, ◌∙◌, subst}
+use Rattle.std.proofs.Common.{◌≤◌, slice_get, sym, ap, ◌∙◌, subst}
 use Rattle.cm_eval.specs.Limits.{body_reach}
 use Rattle.cm_eval.specs.Run.{Ended}
 use Rattle.cm_eval.specs.Going.{ended_by, stopped, touched_of}
 use Rattle.cm_eval.proofs.Calls.{call_runs}
-use Rattle.cm_eval.proofs.Fitting.{rules_fit}
-use Rattle.cm_eval.proofs.Reaching.{call_fits}
+use Rattle.cm_eval.proofs.RulesFit.{rules_fit}
+use Rattle.cm_eval.proofs.Fitting.{call_fits}
 use Rattle.cm_eval.proofs.call.run_call.Goals as goal
 
 pub run_body-requires-clause-rules : goal.run_body-requires-clause-rules

@@ -1,6 +1,3 @@
-use Rattle.std.proofs.Common.{◌≡◌, Option, Some, None, refl, ap, ◌∙◌}
-use Rattle.cm_eval.specs.Run.{logged}
-use Rattle.cm_eval.specs.Going.{touched_of, goes_on}
 use Rattle.cm_eval.proofs.Natural.{compared_gives}
 use Rattle.cm_eval.proofs.operand.compare_values.Goals as goal
 

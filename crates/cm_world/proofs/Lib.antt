@@ -1,0 +1,6 @@
+pub mod Fields
+pub mod Cells
+pub mod Kept
+pub mod Orders
+pub mod Typed
+pub mod Agreeing

@@ -1,0 +1,10 @@
+pub mod World
+pub mod Order
+pub mod Commuting
+pub mod Path
+pub mod Over
+pub mod OpenPrefix
+pub mod Lexicographic
+pub mod Shape
+pub mod Tests
+pub mod Ran

@@ -1,0 +1,14 @@
+//! Worlds of a pair of calls: both orders of the calls, whether they commute, and the path of decisions.
+#![tactic(auto)]
+
+mod commuting;
+mod order;
+mod pair_tests;
+mod path;
+mod states;
+mod world;
+
+pub use commuting::commutes;
+pub use pair_tests::{PairTests, Tests, TestsEntry};
+pub use path::path_of;
+pub use world::World;
