@@ -9,3 +9,6 @@ mod registers;
 pub use counters::{bounded, inc, max, next};
 pub use flags::{fire, open, unset};
 pub use registers::{map, opt, reg};
+
+#[cfg(test)]
+mod tests;

@@ -1,0 +1,6 @@
+mod definitions;
+mod invariants;
+mod session;
+mod states;
+mod values;
+mod worked;
