@@ -92,7 +92,12 @@ fn next_calls(alloc: Global) -> Result<List<Call>, NoMemory>
     ensures exact { IfOk result (λ calls. calls ≡ next_call ∷ []) }
 {
     let step = count_on(alloc)?;
-    let body = three(alloc, Stmt::Let(read(0)), step, Stmt::Return(Expr::Local(0)))?;
+    let body = three(
+        alloc,
+        Stmt::Let(read(0)),
+        step,
+        Stmt::Return(Expr::Local(0)),
+    )?;
     let call = routine(alloc, "next", List::new(alloc), 0, Ty::Int(0), body)?;
     let calls = one(alloc, call)?;
     Ok(calls)

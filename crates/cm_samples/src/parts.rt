@@ -66,12 +66,7 @@ pub(crate) fn only_bool(alloc: Global) -> Result<List<EnumDecl>, NoMemory>
 }
 
 /// A list of one integer type.
-pub(crate) fn int(
-    alloc: Global,
-    name: &str,
-    lo: i64,
-    hi: i64,
-) -> Result<List<IntDecl>, NoMemory>
+pub(crate) fn int(alloc: Global, name: &str, lo: i64, hi: i64) -> Result<List<IntDecl>, NoMemory>
     ensures exact { IfOk result (λ ints. ints ≡ record { name = name.now; lo = lo; hi = hi } ∷ []) }
 {
     let name = Name::from_str(alloc, name)?;
@@ -228,12 +223,7 @@ pub(crate) fn some(alloc: Global, of: Expr) -> Result<Expr, NoMemory>
 }
 
 /// A comparison.
-pub(crate) fn compare(
-    alloc: Global,
-    op: Op,
-    left: Expr,
-    right: Expr,
-) -> Result<Expr, NoMemory>
+pub(crate) fn compare(alloc: Global, op: Op, left: Expr, right: Expr) -> Result<Expr, NoMemory>
     ensures exact { IfOk result (λ e. e ≡ expr.Compare op left right) }
 {
     let left = Boxed::new(alloc, left)?;

@@ -1,6 +1,1 @@
 mod definitions;
-mod invariants;
-mod session;
-mod states;
-mod values;
-mod worked;

@@ -34,7 +34,7 @@ fn bounded_at_3()
 fn open_unused()
     ensures { evaluation_of open_tables 0 (value.Elem 0 ∷ []) (store (value.Tag 0 ∷ []) []) untouched []
         ≡ Ended (value.Elem 0) (store (value.Tag 0 ∷ []) (record { cell = named 0 (Some (value.Elem 0)); value = value.Tag 1 } ∷ []))
-            (touches (named 0 (Some (value.Elem 0))) true) (0 ∷ 1 ∷ 0 ∷ []) }
+        (touches (named 0 (Some (value.Elem 0))) true) (0 ∷ 1 ∷ 0 ∷ []) }
 {}
 
 #[test]
