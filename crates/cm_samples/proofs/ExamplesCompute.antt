@@ -1,0 +1,35 @@
+-- The worked examples of the evaluation.
+use Rattle.std.proofs.Common.{◌≡◌, pos, true, false, [], ◌∷◌, Some, None}
+use Rattle.cm_value.specs.declared.value.Value.TheVariants as value
+use Rattle.cm_eval.specs.State.{store}
+use Rattle.cm_eval.specs.Evaluation.{named}
+use Rattle.cm_eval.specs.Run.{Ended, Stopped, evaluation_of}
+use Rattle.cm_eval.proofs.Examples.{out_elem, out_int, out_tag, elem_compared}
+use Rattle.cm_samples.specs.Examples.{untouched, touches}
+use Rattle.cm_samples.specs.Counters.{inc_tables, next_tables, bounded_tables}
+use Rattle.cm_samples.specs.Flags.{open_tables}
+use Rattle.cm_samples.proofs.Meanings.{means-num, means-tag, means-local, means-whole, means-read, means-shift, means-into, means-compare, means-not, turns-let, turns-set, turns-assume, turns-return, same-elem}
+
+pub inc_at_3 : evaluation_of inc_tables 0 [] (store (value.Int (pos 3) ∷ []) []) untouched [] ≡ Stopped (touches (named 0 None) false) (2 ∷ [])
+unfolding inc_tables
+inc_at_3 = simp (turns-set, means-into, means-shift, means-whole, out_int)
+
+pub inc_at_2 : evaluation_of inc_tables 0 [] (store (value.Int (pos 2) ∷ []) []) untouched []
+    ≡ Ended (value.Tag 1) (store (value.Int (pos 2) ∷ []) (record { cell = named 0 None; value = value.Int (pos 3) } ∷ [])) (touches (named 0 None) true) (1 ∷ [])
+unfolding inc_tables
+inc_at_2 = simp (turns-set, turns-return, means-into, means-shift, means-whole, means-tag, out_int)
+
+pub next_at_1 : evaluation_of next_tables 0 [] (store (value.Int (pos 1) ∷ []) []) untouched []
+    ≡ Ended (value.Int (pos 1)) (store (value.Int (pos 1) ∷ []) (record { cell = named 0 None; value = value.Int (pos 2) } ∷ [])) (touches (named 0 None) true) (1 ∷ [])
+unfolding next_tables
+next_at_1 = simp (turns-let, turns-set, turns-return, means-into, means-shift, means-whole, means-local, out_int)
+
+pub bounded_at_3 : evaluation_of bounded_tables 0 [] (store (value.Int (pos 3) ∷ []) []) untouched [] ≡ Stopped (touches (named 0 None) false) (2 ∷ 0 ∷ [])
+unfolding bounded_tables
+bounded_at_3 = simp (turns-set, means-into, means-shift, means-whole, means-compare, means-local, means-num, out_int, out_tag)
+
+pub open_unused : evaluation_of open_tables 0 (value.Elem 0 ∷ []) (store (value.Tag 0 ∷ []) []) untouched []
+    ≡ Ended (value.Elem 0) (store (value.Tag 0 ∷ []) (record { cell = named 0 (Some (value.Elem 0)); value = value.Tag 1 } ∷ []))
+    (touches (named 0 (Some (value.Elem 0))) true) (0 ∷ 1 ∷ 0 ∷ [])
+unfolding open_tables
+open_unused = simp (turns-assume, turns-set, turns-return, means-not, means-read, means-local, means-tag, elem_compared, same-elem, out_elem, out_tag)

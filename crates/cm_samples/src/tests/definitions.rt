@@ -1,0 +1,47 @@
+// The definitions compute: a contract with an empty body is a worked example.
+ghost use Rattle.std.specs.Prelude.{◌≡◌, pos, true, false, [], ◌∷◌, Some, None};
+ghost use Rattle.cm_value.specs.declared.value.Value.TheVariants as value;
+ghost use Rattle.cm_eval.specs.State.{Touched, store};
+ghost use Rattle.cm_eval.specs.Evaluation.{named};
+ghost use Rattle.cm_eval.specs.Run.{Ended, Stopped, evaluation_of};
+ghost use Rattle.cm_samples.specs.Examples.{untouched, touches};
+ghost use Rattle.cm_samples.specs.Counters.{inc_tables, bounded_tables, next_tables};
+ghost use Rattle.cm_samples.specs.Flags.{open_tables};
+
+/// 3 + 1 is above its type, so the run is blocked.
+fn inc_at_3()
+    ensures { evaluation_of inc_tables 0 [] (store (value.Int (pos 3) ∷ []) []) untouched [] ≡ Stopped (touches (named 0 None) false) (2 ∷ []) }
+{}
+
+/// 2 + 1 is in range and written.
+fn inc_at_2()
+    ensures { evaluation_of inc_tables 0 [] (store (value.Int (pos 2) ∷ []) []) untouched []
+        ≡ Ended (value.Tag 1) (store (value.Int (pos 2) ∷ []) (record { cell = named 0 None; value = value.Int (pos 3) } ∷ [])) (touches (named 0 None) true) (1 ∷ []) }
+{}
+
+/// The reply is the old number.
+fn next_at_1()
+    ensures { evaluation_of next_tables 0 [] (store (value.Int (pos 1) ∷ []) []) untouched []
+        ≡ Ended (value.Int (pos 1)) (store (value.Int (pos 1) ∷ []) (record { cell = named 0 None; value = value.Int (pos 2) } ∷ [])) (touches (named 0 None) true) (1 ∷ []) }
+{}
+
+/// The invariant of the new cell is asked first: 3 is above 2, so it is false.
+fn bounded_at_3()
+    ensures { evaluation_of bounded_tables 0 [] (store (value.Int (pos 3) ∷ []) []) untouched [] ≡ Stopped (touches (named 0 None) false) (2 ∷ 0 ∷ []) }
+{}
+
+/// `not` inspects false, `assume` inspects true, and the write compares its key with the one that was read.
+fn open_unused()
+    ensures { evaluation_of open_tables 0 (value.Elem 0 ∷ []) (store (value.Tag 0 ∷ []) []) untouched []
+        ≡ Ended (value.Elem 0) (store (value.Tag 0 ∷ []) (record { cell = named 0 (Some (value.Elem 0)); value = value.Tag 1 } ∷ []))
+        (touches (named 0 (Some (value.Elem 0))) true) (0 ∷ 1 ∷ 0 ∷ []) }
+{}
+
+#[test]
+fn the_definitions_compute() {
+    inc_at_3();
+    inc_at_2();
+    next_at_1();
+    bounded_at_3();
+    open_unused();
+}
