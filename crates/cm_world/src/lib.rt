@@ -12,3 +12,6 @@ pub use commuting::commutes;
 pub use pair_tests::{PairTests, Tests, TestsEntry};
 pub use path::path_of;
 pub use world::World;
+
+#[cfg(test)]
+mod tests;
