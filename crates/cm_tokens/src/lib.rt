@@ -2,5 +2,7 @@
 #![tactic(auto)]
 
 mod token;
+mod tokens;
 
 pub use token::{Placed, Token};
+pub use tokens::Tokens;
