@@ -1,2 +1,3 @@
 pub mod Alternatives
 pub mod Spells
+pub mod Steps

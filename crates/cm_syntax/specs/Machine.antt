@@ -39,8 +39,12 @@ use Rattle.cm_syntax.specs.declared.tails.RightSide.{RightSide}
 use Rattle.cm_syntax.specs.declared.tails.RightSide.TheVariants as right
 use Rattle.cm_syntax.specs.declared.tails.Joined.{Joined}
 use Rattle.cm_syntax.specs.declared.tails.Joined.TheVariants as joined
+use Rattle.cm_syntax.specs.declared.fault.SyntaxFault.{SyntaxFault}
+use Rattle.cm_syntax.specs.declared.fault.SyntaxFault.TheVariants as fault
 use Rattle.cm_syntax.specs.Spelling.{set_of, post_of}
-use Rattle.cm_syntax.specs.Text.{open_after, too_deep, place_of}
+use Rattle.cm_syntax.specs.declared.reader.Bracket.{Bracket}
+use Rattle.cm_syntax.specs.declared.reader.Bracket.TheVariants.{Opens, Closes, Neither}
+use Rattle.cm_syntax.specs.Text.{opens, closes, open_after, too_deep, place_of}
 
 -- what may be yet to come: a mark, a name, a number, a rule of the grammar, or what may follow a part of one
 pub data Symbol : Type 0 where
@@ -162,6 +166,10 @@ is_mark m t = false
 abbrev pub mark_at : Mark → Option Token → (st : Stack) → Shift st
 mark_at m None st = Fails
 mark_at m (Some t) st = if is_mark m t then Takes st (λ v. v) else Fails
+
+abbrev pub is_next : Mark → Option Token → Bool
+is_next m None = false
+is_next m (Some t) = is_mark m t
 
 abbrev pub exactly_at : (m : Mark) → Option Token → (st : Stack) → Shift (Exactly m ∷ st)
 exactly_at m o st = mapped (λ v. (tt, v)) (mark_at m o st)
@@ -467,3 +475,45 @@ reading n st k (p ∷ ps) =
 abbrev pub running : (st : Stack) → (Values st → Tree) → List Placed → Answer
 running st k [] = ended k (shift st None (place_of []))
 running st k (p ∷ ps) = moved (p ∷ ps) k (shift st (Some p.token) p.at) (λ later j. running later j ps)
+
+-- whether a token opens a bracket, closes one or does neither
+abbrev pub bracket_of : Token → Bracket
+bracket_of t = if opens t then Opens else (if closes t then Closes else Neither)
+
+-- What lies ahead of a reader: the tokens left, and how many brackets are open before them.
+pub record Ahead : Type 0 where
+  pub opened : ℕ
+  pub left : List Placed
+
+abbrev pub head : List Placed → Option Token
+head [] = None
+head (p ∷ ps) = Some p.token
+
+-- The symbol is read to this value, and this lies ahead then.
+unfoldable pub Gives : (s : Symbol) → Ahead → ValueOf s → Ahead → Type 0
+Gives s a x b = (st : Stack) (k : Values (s ∷ st) → Tree) → reading a.opened (s ∷ st) k a.left ≡ reading b.opened st (λ v. k (x, v)) b.left
+
+-- The symbol can't be read, and this is why.
+unfoldable pub Stops : Symbol → Ahead → SyntaxFault → Type 0
+Stops s a fault.Memory = Unit {0}
+Stops s a (fault.Syntax place) = (left : List Placed) × (place_of left ≡ place) × ((st : Stack) (k : Values (s ∷ st) → Tree) → reading a.opened (s ∷ st) k a.left ≡ Err (Syntax left))
+Stops s a (fault.Deep place) = (left : List Placed) × (place_of left ≡ place) × ((st : Stack) (k : Values (s ∷ st) → Tree) → reading a.opened (s ∷ st) k a.left ≡ Err (Deep left))
+
+-- What a function that reads a symbol says.
+abbrev pub Reads : {X : Type 0} → (s : Symbol) → (X → ValueOf s) → Ahead → Ahead → Result X SyntaxFault → Type 0
+Reads s value a b (Ok x) = Gives s a (value x) b
+Reads s value a b (Err e) = Stops s a e
+
+-- The next token, at this place, is passed, and this lies ahead then.
+unfoldable pub Passes : Ahead → Place → Ahead → Type 0
+Passes a place b = (p : Placed) × (a.left ≡ p ∷ b.left) × (p.at ≡ place) × (too_deep a.opened p.token ≡ false) × (b.opened ≡ open_after a.opened p.token)
+
+-- The next token can't be passed: there is none, or it opens a 65th bracket.
+unfoldable pub Halts : Ahead → SyntaxFault → Type 0
+Halts a fault.Memory = Unit {0}
+Halts a (fault.Syntax place) = (a.left ≡ []) × (place_of a.left ≡ place)
+Halts a (fault.Deep place) = (p : Placed) × (rest : List Placed) × (a.left ≡ p ∷ rest) × (p.at ≡ place) × (too_deep a.opened p.token ≡ true)
+
+abbrev pub PassesOr : Ahead → Ahead → Result Place SyntaxFault → Type 0
+PassesOr a b (Ok place) = Passes a place b
+PassesOr a b (Err e) = Halts a e

@@ -3,6 +3,7 @@
 
 mod fault;
 mod mark;
+mod reader;
 mod tails;
 mod tree;
 
