@@ -230,8 +230,7 @@ type_spells (Some token.Option) a st = λ v. ap (λ f. f.writes (spelling st v.1
 type_spells o a st = fails (AType ∷ st) o
 
 part_spells : (o : Option Token) (a : Place) (st : Stack) → Spells (APart ∷ st) o (m.part_at o a st)
-part_spells (Some (token.Name n)) a st = λ v. refl
-part_spells o a st = fails (APart ∷ st) o
+part_spells o a st = mapped_spells (AName ∷ Exactly mark.Colon ∷ AType ∷ st) (APart ∷ st) o (λ v. (m.part_of a v.0 v.1.1.0, v.1.1.1)) (λ v. refl) (m.name_at o (Exactly mark.Colon ∷ AType ∷ st)) (name_spells o (Exactly mark.Colon ∷ AType ∷ st))
 
 more_parts_spells : (o : Option Token) (st : Stack) (next : Shift st) → Spells st o next → Spells (MoreParts ∷ st) o (m.more_parts_at o st next)
 more_parts_spells (Some token.Comma) st next h = λ v. refl
@@ -278,8 +277,7 @@ fields_spells (Some token.Dot) st next h = λ v. refl
 fields_spells o st next h = mapped_spells st (Fields ∷ st) o (λ v. ([], v)) (λ v. refl) next h
 
 set_spells : (o : Option Token) (a : Place) (st : Stack) → Spells (ASet ∷ st) o (m.set_at o a st)
-set_spells (Some (token.Name n)) a st = λ v. ap (λ f. f.writes (spelling st v.1.1)) (is.set_is a n v.1.0)
-set_spells o a st = fails (ASet ∷ st) o
+set_spells o a st = mapped_spells (AName ∷ Exactly mark.Colon ∷ AnExpr ∷ st) (ASet ∷ st) o _ (λ v. ap (λ f. f.writes (spelling st v.1.1.1)) (is.set_is a v.0 v.1.1.0)) (m.name_at o (Exactly mark.Colon ∷ AnExpr ∷ st)) (name_spells o (Exactly mark.Colon ∷ AnExpr ∷ st))
 
 more_sets_spells : (o : Option Token) (st : Stack) (next : Shift st) → Spells st o next → Spells (MoreSets ∷ st) o (m.more_sets_at o st next)
 more_sets_spells (Some token.Comma) st next h = λ v. refl

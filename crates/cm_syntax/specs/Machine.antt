@@ -199,8 +199,7 @@ abbrev pub part_of : Place → List ℕ → TypeTree → Part
 part_of a n t = record { at = a; name = n; value = t }
 
 abbrev pub part_at : Option Token → Place → (st : Stack) → Shift (APart ∷ st)
-part_at (Some (token.Name n)) a st = Takes (Exactly mark.Colon ∷ AType ∷ st) (λ v. (part_of a n v.1.0, v.1.1))
-part_at _ a st = Fails
+part_at o a st = mapped (λ v. (part_of a v.0 v.1.1.0, v.1.1.1)) (name_at o (Exactly mark.Colon ∷ AType ∷ st))
 
 abbrev pub more_parts_at : Option Token → (st : Stack) → Shift st → Shift (MoreParts ∷ st)
 more_parts_at (Some token.Comma) st next = Takes (APart ∷ MoreParts ∷ st) (λ v. (v.0 ∷ v.1.0, v.1.1))
@@ -261,8 +260,7 @@ fields_at (Some token.Dot) st next = Takes (AName ∷ Fields ∷ st) (λ v. (v.0
 fields_at _ st next = mapped (λ v. ([], v)) next
 
 abbrev pub set_at : Option Token → Place → (st : Stack) → Shift (ASet ∷ st)
-set_at (Some (token.Name n)) a st = Takes (Exactly mark.Colon ∷ AnExpr ∷ st) (λ v. (set_of a n v.1.0, v.1.1))
-set_at _ a st = Fails
+set_at o a st = mapped (λ v. (set_of a v.0 v.1.1.0, v.1.1.1)) (name_at o (Exactly mark.Colon ∷ AnExpr ∷ st))
 
 abbrev pub more_sets_at : Option Token → (st : Stack) → Shift st → Shift (MoreSets ∷ st)
 more_sets_at (Some token.Comma) st next = Takes (ASet ∷ MoreSets ∷ st) (λ v. (v.0 ∷ v.1.0, v.1.1))
@@ -479,6 +477,29 @@ running st k (p ∷ ps) = moved (p ∷ ps) k (shift st (Some p.token) p.at) (λ 
 -- whether a token opens a bracket, closes one or does neither
 abbrev pub bracket_of : Token → Bracket
 bracket_of t = if opens t then Opens else (if closes t then Closes else Neither)
+
+-- tests of the next token
+
+abbrev pub starts_number : Option Token → Bool
+starts_number (Some (token.Number n)) = true
+starts_number _ = false
+
+abbrev pub starts_num : Option Token → Bool
+starts_num (Some (token.Number n)) = true
+starts_num (Some token.Minus) = true
+starts_num _ = false
+
+abbrev pub starts_name : Option Token → Bool
+starts_name (Some (token.Name n)) = true
+starts_name _ = false
+
+abbrev pub no_close_round : Option Token → Bool
+no_close_round (Some token.CloseRound) = false
+no_close_round _ = true
+
+abbrev pub no_not : Option Token → Bool
+no_not (Some token.Not) = false
+no_not _ = true
 
 -- What lies ahead of a reader: the tokens left, and how many brackets are open before them.
 pub record Ahead : Type 0 where
