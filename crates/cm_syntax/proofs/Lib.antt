@@ -5,3 +5,7 @@ pub mod Types
 pub mod Expressions
 pub mod Statements
 pub mod Declarations
+pub mod Tests
+pub mod Skips
+pub mod Decisions
+pub mod Lists

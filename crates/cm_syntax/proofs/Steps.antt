@@ -45,7 +45,7 @@ memory s a = tt
 same_token : (ps : List Placed) (q : Placed) (rest : List Placed) (t : Token) → ps ≡ q ∷ rest → head ps ≡ Some t → t ≡ q.token
 same_token ps q rest t e h = let f : Some t ≡ Some q.token = sym h ∙ ap head e in cc
 
-takes_at : (n m : ℕ) (st : Stack) (k : Values st → Tree) (q : Placed) (ps : List Placed) (left : List Placed) → left ≡ q ∷ ps → too_deep n q.token ≡ false → m ≡ open_after n q.token → (later : Stack) (build : Values later → Values st) → shift st (Some q.token) q.at ≡ Takes later build → reading n st k left ≡ reading m later (λ v. k (build v)) ps
+pub takes_at : (n m : ℕ) (st : Stack) (k : Values st → Tree) (q : Placed) (ps : List Placed) (left : List Placed) → left ≡ q ∷ ps → too_deep n q.token ≡ false → m ≡ open_after n q.token → (later : Stack) (build : Values later → Values st) → shift st (Some q.token) q.at ≡ Takes later build → reading n st k left ≡ reading m later (λ v. k (build v)) ps
 takes_at n m st k q ps left e shallow opened later build step =
     ap (reading n st k) e ∙ ap (λ s. moved (q ∷ ps) k s (after_step n q ps)) step
     ∙ ap (λ b. if b then Err (Deep (q ∷ ps)) else reading (open_after n q.token) later (λ v. k (build v)) ps) shallow

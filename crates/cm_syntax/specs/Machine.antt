@@ -493,6 +493,10 @@ abbrev pub starts_name : Option Token → Bool
 starts_name (Some (token.Name n)) = true
 starts_name _ = false
 
+abbrev pub no_name : Option Token → Bool
+no_name (Some (token.Name n)) = false
+no_name _ = true
+
 abbrev pub no_close_round : Option Token → Bool
 no_close_round (Some token.CloseRound) = false
 no_close_round _ = true
@@ -513,6 +517,10 @@ head (p ∷ ps) = Some p.token
 -- The symbol is read to this value, and this lies ahead then.
 unfoldable pub Gives : (s : Symbol) → Ahead → ValueOf s → Ahead → Type 0
 Gives s a x b = (st : Stack) (k : Values (s ∷ st) → Tree) → reading a.opened (s ∷ st) k a.left ≡ reading b.opened st (λ v. k (x, v)) b.left
+
+-- The symbol is partly read; its value is this one of the value of what is left of it.
+unfoldable pub Partly : (s : Symbol) → (ValueOf s → ValueOf s) → Ahead → Ahead → Type 0
+Partly s f a b = (st : Stack) (k : Values (s ∷ st) → Tree) → reading a.opened (s ∷ st) k a.left ≡ reading b.opened (s ∷ st) (λ v. k (f v.0, v.1)) b.left
 
 -- The symbol can't be read, and this is why.
 unfoldable pub Stops : Symbol → Ahead → SyntaxFault → Type 0

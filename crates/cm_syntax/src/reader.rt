@@ -1,16 +1,16 @@
 //! A reader of tokens that counts the brackets that are open.
 
-ghost use Rattle.std.specs.Prelude.{◌≡◌, ◌∷◌, ◌<◌, ◌≤◌, [], List, IfOk, IfErr, MatchOption, MatchResult, true, false, length};
+ghost use Rattle.std.specs.Prelude.{◌≡◌, ◌∷◌, ◌<◌, ◌≤◌, ◌+◌, [], List, IfOk, IfErr, MatchOption, MatchResult, true, false, length};
 ghost use Rattle.cm_tokens.specs.declared.token.Placed.{Placed};
 ghost use Rattle.cm_tokens.specs.declared.token.Token.TheVariants as token;
 ghost use Rattle.cm_model.specs.declared.place.Place.{Place};
-ghost use Rattle.cm_syntax.specs.Machine.{Reads, PassesOr, AName, ANumber, ANum, Exactly, head};
+ghost use Rattle.cm_syntax.specs.Machine.{Reads, PassesOr, AName, ANumber, Exactly, head, no_name};
 ghost use Rattle.cm_syntax.specs.Machine as Machine;
 ghost use Rattle.cm_syntax.specs.Text as Text;
 ghost use Rattle.cm_syntax.specs.declared.fault.SyntaxFault.TheVariants as fault;
 
 use crate::mark::Mark;
-use crate::{Num, SyntaxFault};
+use crate::SyntaxFault;
 use cm_model::{Name, NoMemory, Place};
 use cm_tokens::{Placed, Token, Tokens};
 use std::alloc::Global;
@@ -73,13 +73,92 @@ impl<'a> Reader<'a> {
     /// Passes the next token and tells its place.
     #[tactic(auto, unfolding(crate::specs::Machine::Passes, crate::specs::Machine::Halts))]
     pub fn pass(&mut self) -> Result<Place, SyntaxFault>
-        ensures { PassesOr self.old self.new result }
+        ensures passes { PassesOr self.old self.new result }
+        ensures shorter { IfOk result (λ x. length self.old.left ≡ length self.new.left + 1) }
     {
         let at = self.place();
         let opened = self.opened_after()?;
         drop_next(&mut self.tokens)?;
         self.opened = opened;
         Ok(at)
+    }
+
+    /// An allocator for what is read.
+    pub fn alloc(&self) -> Global {
+        self.alloc
+    }
+
+    /// Takes a mark.
+    #[tactic(
+        auto,
+        using(
+            crate::proofs::Decisions::gives_mark,
+            crate::proofs::Decisions::halts_mark,
+            crate::proofs::Decisions::stuck_mark
+        )
+    )]
+    pub fn read_mark(&mut self, mark: Mark) -> Result<(), SyntaxFault>
+        ensures reads { Reads (Exactly mark) (λ x. tt) self.old self.new result }
+        ensures shorter { IfOk result (λ x. length self.new.left < length self.old.left) }
+    {
+        if self.is_next(mark) {
+            self.pass()?;
+            Ok(())
+        } else {
+            Err(self.stuck())
+        }
+    }
+
+    fn is_next(&self, mark: Mark) -> bool
+        ensures { result ≡ Machine.is_next mark (head self.now.left) }
+    {
+        match self.peek() {
+            Some(token) => is_mark(mark, token),
+            None => false,
+        }
+    }
+
+    /// Takes a name.
+    #[tactic(
+        auto,
+        using(
+            crate::proofs::Decisions::gives_name,
+            crate::proofs::Decisions::stuck_a_name,
+            crate::proofs::Steps::memory
+        )
+    )]
+    pub fn read_name(&mut self) -> Result<Name, SyntaxFault>
+        ensures reads { Reads AName (λ x. x) self.old self.new result }
+        ensures shorter { IfOk result (λ x. length self.new.left < length self.old.left) }
+    {
+        let at = self.place();
+        match take_name(&mut self.tokens)? {
+            Some(name) => Ok(name),
+            None => Err(SyntaxFault::Syntax(at)),
+        }
+    }
+
+    /// Takes a number.
+    #[tactic(
+        auto,
+        using(
+            crate::proofs::Decisions::gives_number,
+            crate::proofs::Decisions::halts_number,
+            crate::proofs::Decisions::stuck_a_number
+        )
+    )]
+    pub fn read_number(&mut self) -> Result<u32, SyntaxFault>
+        ensures reads { Reads ANumber (λ x. x) self.old self.new result }
+        ensures shorter { IfOk result (λ x. length self.new.left < length self.old.left) }
+    {
+        match self.peek() {
+            Some(Token::Number(size)) => {
+                let size = *size;
+                self.pass()?;
+                Ok(size)
+            }
+            _ => Err(self.stuck()),
+        }
     }
 
     /// How many brackets are open after the next token.
@@ -114,6 +193,45 @@ fn bracket_of(token: &Token) -> Bracket
         Token::OpenRound | Token::OpenSquare | Token::OpenCurly => Bracket::Opens,
         Token::CloseRound | Token::CloseSquare | Token::CloseCurly => Bracket::Closes,
         _ => Bracket::Neither,
+    }
+}
+
+fn is_mark(mark: Mark, token: &Token) -> bool
+    ensures { result ≡ Machine.is_mark mark token.now }
+{
+    match (mark, token) {
+        (Mark::Semicolon, Token::Semicolon)
+        | (Mark::Colon, Token::Colon)
+        | (Mark::DotDot, Token::DotDot)
+        | (Mark::OpenRound, Token::OpenRound)
+        | (Mark::CloseRound, Token::CloseRound)
+        | (Mark::CloseSquare, Token::CloseSquare)
+        | (Mark::OpenCurly, Token::OpenCurly)
+        | (Mark::CloseCurly, Token::CloseCurly)
+        | (Mark::Assign, Token::Assign)
+        | (Mark::Arrow, Token::Arrow)
+        | (Mark::Nothing, Token::Nothing)
+        | (Mark::Something, Token::Something)
+        | (Mark::Internal, Token::Internal) => true,
+        _ => false,
+    }
+}
+
+fn take_name(tokens: &mut Tokens) -> Result<Option<Name>, NoMemory>
+    ensures { IfOk result (λ o. MatchOption o (no_name (head tokens.old) ≡ true) (λ n. (p : Placed) × (tokens.old ≡ p ∷ tokens.new) × (p.token ≡ token.Name n))) }
+{
+    match tokens.take()? {
+        Some(placed) => Ok(name_of(placed.token)),
+        None => Ok(None),
+    }
+}
+
+fn name_of(given: Token) -> Option<Name>
+    ensures { MatchOption result (no_name (Some given) ≡ true) (λ n. given ≡ token.Name n) }
+{
+    match given {
+        Token::Name(name) => Some(name),
+        _ => None,
     }
 }
 
