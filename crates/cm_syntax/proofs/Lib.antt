@@ -1,11 +1,11 @@
 pub mod Alternatives
 pub mod Spells
 pub mod Steps
-pub mod Types
-pub mod Expressions
-pub mod Statements
-pub mod Declarations
+pub mod TypeSteps
+pub mod ExprSteps
+pub mod StmtSteps
+pub mod DeclSteps
 pub mod Tests
 pub mod Skips
 pub mod Decisions
-pub mod Lists
+pub mod ListSteps

@@ -17,6 +17,7 @@ use Rattle.cm_syntax.specs.declared.tree.Stmt.{Stmt}
 use Rattle.cm_syntax.specs.declared.tree.Stmt.TheVariants as stmt
 use Rattle.cm_syntax.specs.declared.tree.Expr.{Expr}
 use Rattle.cm_syntax.specs.declared.tree.Cmp.{Cmp}
+use Rattle.cm_syntax.specs.declared.tree.Relation.{Relation}
 use Rattle.cm_syntax.specs.declared.tree.Relation.TheVariants as relation
 use Rattle.cm_syntax.specs.declared.tree.Sum.{Sum}
 use Rattle.cm_syntax.specs.declared.tree.Unary.{Unary}
@@ -34,10 +35,10 @@ use Rattle.cm_syntax.specs.declared.tails.RightSide.TheVariants as right
 use Rattle.cm_syntax.specs.declared.tails.Joined.{Joined}
 use Rattle.cm_syntax.specs.declared.tails.Joined.TheVariants as joined
 use Rattle.cm_syntax.specs.declared.fault.SyntaxFault.{SyntaxFault}
-use Rattle.cm_syntax.specs.Spelling.{set_of, post_of}
+use Rattle.cm_syntax.specs.Spelling.{set_of, post_of, relation_token}
 use Rattle.cm_syntax.specs.Text.{place_of}
 use Rattle.cm_syntax.specs.Machine as m
-use Rattle.cm_syntax.specs.Machine.{Exactly, AName, ANumber, ANum, AType, APart, MoreParts, Params, Internals, MoreNames, Key, Where, ADecl, Decls, ABlock, Stmts, AStmt, Index, Else, AnExpr, MoreCmps, Ands, Ors, ACmp, Right, ASum, AnOffset, AUnary, APost, Fields, With, MoreSets, ASet, APrim, BehindName, Args, MoreArgs, Text, Stack, Values, Shift, mapped, shift, reading, Ahead, head, Gives, Stops, Passes, Halts, part_of, after_name, sum_of, cmp_of, expr_of, assign_of, if_of, block_of, state_of, tree_of, starts_number, starts_name, starts_num, no_name, no_close_round, no_not}
+use Rattle.cm_syntax.specs.Machine.{Exactly, AName, ANumber, ANum, AType, APart, MoreParts, Params, Internals, MoreNames, Key, Where, ADecl, Decls, ABlock, Stmts, AStmt, Index, Else, AnExpr, MoreCmps, Ands, Ors, ACmp, Right, ASum, AnOffset, AUnary, APost, Fields, With, MoreSets, ASet, APrim, BehindName, Args, MoreArgs, Text, Stack, Values, Shift, Takes, mapped, shift, reading, Ahead, head, Gives, Stops, Passes, Halts, part_of, after_name, sum_of, cmp_of, expr_of, assign_of, if_of, block_of, state_of, tree_of, starts_number, starts_name, starts_num, no_name, no_close_round, no_not}
 use Rattle.cm_syntax.proofs.Steps.{same_read}
 use Rattle.cm_syntax.proofs.Tests.{no_comma, no_semicolon, no_map, no_where, no_open_square, no_else, no_joint, no_and, no_or, no_relation, no_sign, no_dot, no_with, no_bracket, no_close_curly, no_end, no_type, no_prim, no_open_curly, no_stmt, no_decl, no_num, no_number}
 

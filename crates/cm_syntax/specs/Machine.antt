@@ -1,5 +1,5 @@
 -- A machine that takes one token at a time; what is yet to come is a list of symbols. Only the clauses of the functions that read a part of a text speak of it.
-use Rattle.std.specs.Prelude.{◌≡◌, ℕ, ◌+◌, Bool, true, false, List, [], ◌∷◌, length, Option, Some, None, Result, Ok, Err, if◌then◌else◌}
+use Rattle.std.specs.Prelude.{◌≡◌, ℕ, ◌+◌, Bool, true, false, List, [], ◌∷◌, ◌++◌, length, Option, Some, None, Result, Ok, Err, if◌then◌else◌}
 use Rattle.cm_model.specs.declared.place.Place.{Place}
 use Rattle.cm_tokens.specs.declared.token.Token.{Token}
 use Rattle.cm_tokens.specs.declared.token.Token.TheVariants as token
@@ -518,9 +518,12 @@ head (p ∷ ps) = Some p.token
 unfoldable pub Gives : (s : Symbol) → Ahead → ValueOf s → Ahead → Type 0
 Gives s a x b = (st : Stack) (k : Values (s ∷ st) → Tree) → reading a.opened (s ∷ st) k a.left ≡ reading b.opened st (λ v. k (x, v)) b.left
 
--- The symbol is partly read; its value is this one of the value of what is left of it.
-unfoldable pub Partly : (s : Symbol) → (ValueOf s → ValueOf s) → Ahead → Ahead → Type 0
-Partly s f a b = (st : Stack) (k : Values (s ∷ st) → Tree) → reading a.opened (s ∷ st) k a.left ≡ reading b.opened (s ∷ st) (λ v. k (f v.0, v.1)) b.left
+abbrev pub followed_by : {X : Type 0} → List X → List X → List X
+followed_by xs ys = xs ++ ys
+
+-- The symbol is partly read, to this; its value is this joined with the value of what is left of it.
+unfoldable pub Partly : (s : Symbol) → (ValueOf s → ValueOf s → ValueOf s) → ValueOf s → Ahead → Ahead → Type 0
+Partly s join x a b = (st : Stack) (k : Values (s ∷ st) → Tree) → reading a.opened (s ∷ st) k a.left ≡ reading b.opened (s ∷ st) (λ v. k (join x v.0, v.1)) b.left
 
 -- The symbol can't be read, and this is why.
 unfoldable pub Stops : Symbol → Ahead → SyntaxFault → Type 0

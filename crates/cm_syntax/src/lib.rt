@@ -2,10 +2,12 @@
 #![tactic(auto)]
 
 mod fault;
+mod lists;
 mod mark;
 mod reader;
 mod tails;
 mod tree;
+mod types;
 
 pub use fault::SyntaxFault;
 pub use tree::{

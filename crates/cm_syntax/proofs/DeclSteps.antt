@@ -17,6 +17,7 @@ use Rattle.cm_syntax.specs.declared.tree.Stmt.{Stmt}
 use Rattle.cm_syntax.specs.declared.tree.Stmt.TheVariants as stmt
 use Rattle.cm_syntax.specs.declared.tree.Expr.{Expr}
 use Rattle.cm_syntax.specs.declared.tree.Cmp.{Cmp}
+use Rattle.cm_syntax.specs.declared.tree.Relation.{Relation}
 use Rattle.cm_syntax.specs.declared.tree.Relation.TheVariants as relation
 use Rattle.cm_syntax.specs.declared.tree.Sum.{Sum}
 use Rattle.cm_syntax.specs.declared.tree.Unary.{Unary}
@@ -34,11 +35,11 @@ use Rattle.cm_syntax.specs.declared.tails.RightSide.TheVariants as right
 use Rattle.cm_syntax.specs.declared.tails.Joined.{Joined}
 use Rattle.cm_syntax.specs.declared.tails.Joined.TheVariants as joined
 use Rattle.cm_syntax.specs.declared.fault.SyntaxFault.{SyntaxFault}
-use Rattle.cm_syntax.specs.Spelling.{set_of, post_of}
+use Rattle.cm_syntax.specs.Spelling.{set_of, post_of, relation_token}
 use Rattle.cm_syntax.specs.Text.{place_of}
 use Rattle.cm_syntax.specs.Machine as m
-use Rattle.cm_syntax.specs.Machine.{Exactly, AName, ANumber, ANum, AType, APart, MoreParts, Params, Internals, MoreNames, Key, Where, ADecl, Decls, ABlock, Stmts, AStmt, Index, Else, AnExpr, MoreCmps, Ands, Ors, ACmp, Right, ASum, AnOffset, AUnary, APost, Fields, With, MoreSets, ASet, APrim, BehindName, Args, MoreArgs, Text, Stack, Values, mapped, shift, reading, Ahead, head, Gives, Stops, Passes, Halts, part_of, after_name, sum_of, cmp_of, expr_of, assign_of, if_of, block_of, state_of, tree_of, starts_number, starts_name, starts_num, no_name, no_close_round, no_not}
-use Rattle.cm_syntax.proofs.Steps.{same_read, passes_to, halts_at, stops_by}
+use Rattle.cm_syntax.specs.Machine.{Exactly, AName, ANumber, ANum, AType, APart, MoreParts, Params, Internals, MoreNames, Key, Where, ADecl, Decls, ABlock, Stmts, AStmt, Index, Else, AnExpr, MoreCmps, Ands, Ors, ACmp, Right, ASum, AnOffset, AUnary, APost, Fields, With, MoreSets, ASet, APrim, BehindName, Args, MoreArgs, Text, Stack, Values, Shift, Takes, mapped, shift, reading, Ahead, head, Gives, Stops, Passes, Halts, part_of, after_name, sum_of, cmp_of, expr_of, assign_of, if_of, block_of, state_of, tree_of, starts_number, starts_name, starts_num, no_name, no_close_round, no_not}
+use Rattle.cm_syntax.proofs.Steps.{same_read, passes_to, halts_at, stops_by, memory}
 
 pub gives_sort : (a b0 b1 b2 : Ahead) (p : Place) (x0 : List ℕ) → head a.left ≡ Some token.Sort → Passes a p b0 → Gives AName b0 x0 b1 → Gives (Exactly mark.Semicolon) b1 tt b2 → Gives ADecl a (decl.Sort p x0) b2
 unfolding Gives
@@ -59,6 +60,8 @@ unfolding Gives
 stops_sort_1 a b0 b1 p x0 e h q g0 z = stops_by ADecl (Exactly mark.Semicolon) a b1 e (λ st k. ((st), (λ v. k (decl.Sort p x0, v.1)),
     passes_to ADecl token.Sort a b0 p st (AName ∷ Exactly mark.Semicolon ∷ st) (λ v. (decl.Sort p v.0, v.1.1)) h q refl k
     ∙ g0 (Exactly mark.Semicolon ∷ st) (λ v. k (decl.Sort p v.0, v.1.1)))) z
+
+pub ruleset steps_sort = (gives_sort, halts_sort, stops_sort_0, stops_sort_1, memory)
 
 pub gives_int : (a b0 b1 b2 b3 b4 b5 : Ahead) (p : Place) (x0 : List ℕ) (x1 : Num) (x3 : Num) → head a.left ≡ Some token.Int → Passes a p b0 → Gives AName b0 x0 b1 → Gives ANum b1 x1 b2 → Gives (Exactly mark.DotDot) b2 tt b3 → Gives ANum b3 x3 b4 → Gives (Exactly mark.Semicolon) b4 tt b5 → Gives ADecl a (decl.Int p x0 x1 x3) b5
 unfolding Gives
@@ -107,6 +110,8 @@ stops_int_4 a b0 b1 b2 b3 b4 p x0 x1 x3 e h q g0 g1 g2 g3 z = stops_by ADecl (Ex
     ∙ g2 (ANum ∷ Exactly mark.Semicolon ∷ st) (λ v. k (decl.Int p x0 x1 v.1.0, v.1.1.1))
     ∙ g3 (Exactly mark.Semicolon ∷ st) (λ v. k (decl.Int p x0 x1 v.0, v.1.1)))) z
 
+pub ruleset steps_int = (gives_int, halts_int, stops_int_0, stops_int_1, stops_int_2, stops_int_3, stops_int_4, memory)
+
 pub gives_enum : (a b0 b1 b2 b3 b4 b5 : Ahead) (p : Place) (x0 : List ℕ) (x2 : List ℕ) (x3 : List (List ℕ)) → head a.left ≡ Some token.Enum → Passes a p b0 → Gives AName b0 x0 b1 → Gives (Exactly mark.OpenCurly) b1 tt b2 → Gives AName b2 x2 b3 → Gives MoreNames b3 x3 b4 → Gives (Exactly mark.CloseCurly) b4 tt b5 → Gives ADecl a (decl.Enum p x0 x2 x3) b5
 unfolding Gives
 gives_enum a b0 b1 b2 b3 b4 b5 p x0 x2 x3 h q g0 g1 g2 g3 g4 = λ st k.
@@ -154,6 +159,8 @@ stops_enum_4 a b0 b1 b2 b3 b4 p x0 x2 x3 e h q g0 g1 g2 g3 z = stops_by ADecl (E
     ∙ g2 (MoreNames ∷ Exactly mark.CloseCurly ∷ st) (λ v. k (decl.Enum p x0 v.0 v.1.0, v.1.1.1))
     ∙ g3 (Exactly mark.CloseCurly ∷ st) (λ v. k (decl.Enum p x0 x2 v.0, v.1.1)))) z
 
+pub ruleset steps_enum = (gives_enum, halts_enum, stops_enum_0, stops_enum_1, stops_enum_2, stops_enum_3, stops_enum_4, memory)
+
 pub gives_record : (a b0 b1 b2 b3 b4 b5 : Ahead) (p : Place) (x0 : List ℕ) (x2 : Part) (x3 : List Part) → head a.left ≡ Some token.Record → Passes a p b0 → Gives AName b0 x0 b1 → Gives (Exactly mark.OpenCurly) b1 tt b2 → Gives APart b2 x2 b3 → Gives MoreParts b3 x3 b4 → Gives (Exactly mark.CloseCurly) b4 tt b5 → Gives ADecl a (decl.Record p x0 x2 x3) b5
 unfolding Gives
 gives_record a b0 b1 b2 b3 b4 b5 p x0 x2 x3 h q g0 g1 g2 g3 g4 = λ st k.
@@ -200,6 +207,8 @@ stops_record_4 a b0 b1 b2 b3 b4 p x0 x2 x3 e h q g0 g1 g2 g3 z = stops_by ADecl 
     ∙ g1 (APart ∷ MoreParts ∷ Exactly mark.CloseCurly ∷ st) (λ v. k (decl.Record p x0 v.1.0 v.1.1.0, v.1.1.1.1))
     ∙ g2 (MoreParts ∷ Exactly mark.CloseCurly ∷ st) (λ v. k (decl.Record p x0 v.0 v.1.0, v.1.1.1))
     ∙ g3 (Exactly mark.CloseCurly ∷ st) (λ v. k (decl.Record p x0 x2 v.0, v.1.1)))) z
+
+pub ruleset steps_record = (gives_record, halts_record, stops_record_0, stops_record_1, stops_record_2, stops_record_3, stops_record_4, memory)
 
 pub gives_state : (a b0 b1 b2 b3 b4 b5 b6 : Ahead) (p : Place) (x0 : List ℕ) (x2 : Option TypeTree) (x3 : TypeTree) (x4 : Option Expr) → head a.left ≡ Some token.State → Passes a p b0 → Gives AName b0 x0 b1 → Gives (Exactly mark.Colon) b1 tt b2 → Gives Key b2 x2 b3 → Gives AType b3 x3 b4 → Gives Where b4 x4 b5 → Gives (Exactly mark.Semicolon) b5 tt b6 → Gives ADecl a (state_of p x0 x2 x3 x4) b6
 unfolding Gives
@@ -258,6 +267,8 @@ stops_state_5 a b0 b1 b2 b3 b4 b5 p x0 x2 x3 x4 e h q g0 g1 g2 g3 g4 z = stops_b
     ∙ g2 (AType ∷ Where ∷ Exactly mark.Semicolon ∷ st) (λ v. k (state_of p x0 v.0 v.1.0 v.1.1.0, v.1.1.1.1))
     ∙ g3 (Where ∷ Exactly mark.Semicolon ∷ st) (λ v. k (state_of p x0 x2 v.0 v.1.0, v.1.1.1))
     ∙ g4 (Exactly mark.Semicolon ∷ st) (λ v. k (state_of p x0 x2 x3 v.0, v.1.1)))) z
+
+pub ruleset steps_state = (gives_state, halts_state, stops_state_0, stops_state_1, stops_state_2, stops_state_3, stops_state_4, stops_state_5, memory)
 
 pub gives_function : (a b0 b1 b2 b3 b4 b5 b6 b7 : Ahead) (p : Place) (x0 : List ℕ) (x2 : List Part) (x5 : TypeTree) (x6 : Block) → head a.left ≡ Some token.Fn → Passes a p b0 → Gives AName b0 x0 b1 → Gives (Exactly mark.OpenRound) b1 tt b2 → Gives Params b2 x2 b3 → Gives (Exactly mark.CloseRound) b3 tt b4 → Gives (Exactly mark.Arrow) b4 tt b5 → Gives AType b5 x5 b6 → Gives ABlock b6 x6 b7 → Gives ADecl a (decl.Function p x0 x2 x5 x6) b7
 unfolding Gives
@@ -328,6 +339,8 @@ stops_function_6 a b0 b1 b2 b3 b4 b5 b6 p x0 x2 x5 e h q g0 g1 g2 g3 g4 g5 z = s
     ∙ g3 (Exactly mark.Arrow ∷ AType ∷ ABlock ∷ st) (λ v. k (decl.Function p x0 x2 v.1.1.0 v.1.1.1.0, v.1.1.1.1))
     ∙ g4 (AType ∷ ABlock ∷ st) (λ v. k (decl.Function p x0 x2 v.1.0 v.1.1.0, v.1.1.1))
     ∙ g5 (ABlock ∷ st) (λ v. k (decl.Function p x0 x2 v.0 v.1.0, v.1.1)))) z
+
+pub ruleset steps_function = (gives_function, halts_function, stops_function_0, stops_function_1, stops_function_2, stops_function_3, stops_function_4, stops_function_5, stops_function_6, memory)
 
 pub gives_call : (a b0 b1 b2 b3 b4 b5 b6 b7 b8 : Ahead) (p : Place) (x0 : List ℕ) (x2 : List Part) (x3 : List Part) (x6 : TypeTree) (x7 : Block) → head a.left ≡ Some token.Call → Passes a p b0 → Gives AName b0 x0 b1 → Gives (Exactly mark.OpenRound) b1 tt b2 → Gives Params b2 x2 b3 → Gives Internals b3 x3 b4 → Gives (Exactly mark.CloseRound) b4 tt b5 → Gives (Exactly mark.Arrow) b5 tt b6 → Gives AType b6 x6 b7 → Gives ABlock b7 x7 b8 → Gives ADecl a (decl.Call p x0 x2 x3 x6 x7) b8
 unfolding Gives
@@ -412,6 +425,8 @@ stops_call_7 a b0 b1 b2 b3 b4 b5 b6 b7 p x0 x2 x3 x6 e h q g0 g1 g2 g3 g4 g5 g6 
     ∙ g5 (AType ∷ ABlock ∷ st) (λ v. k (decl.Call p x0 x2 x3 v.1.0 v.1.1.0, v.1.1.1))
     ∙ g6 (ABlock ∷ st) (λ v. k (decl.Call p x0 x2 x3 v.0 v.1.0, v.1.1)))) z
 
+pub ruleset steps_call = (gives_call, halts_call, stops_call_0, stops_call_1, stops_call_2, stops_call_3, stops_call_4, stops_call_5, stops_call_6, stops_call_7, memory)
+
 open_text : (b : Ahead) (p : Place) (st : Stack) (k : Values (Text ∷ st) → Tree) → place_of b.left ≡ p → reading b.opened (Text ∷ st) k b.left ≡ reading b.opened (ADecl ∷ Decls ∷ st) (λ v. k (tree_of p v.0 v.1.0, v.1.1)) b.left
 open_text b p st k q = same_read b.opened (ADecl ∷ Decls ∷ st) (Text ∷ st) (λ v. (tree_of (place_of b.left) v.0 v.1.0, v.1.1)) k b.left (refl) ∙ ap (λ p. reading b.opened (ADecl ∷ Decls ∷ st) (λ v. k (tree_of p v.0 v.1.0, v.1.1)) b.left) q
 
@@ -431,3 +446,5 @@ unfolding Gives
 stops_text_1 b0 b1 p x0 e q g0 z = stops_by Text Decls b0 b1 e (λ st k. ((st), (λ v. k (tree_of p x0 v.0, v.1)),
     open_text b0 p st k q
     ∙ g0 (Decls ∷ st) (λ v. k (tree_of p v.0 v.1.0, v.1.1)))) z
+
+pub ruleset steps_text = (gives_text, stops_text_0, stops_text_1, memory)
