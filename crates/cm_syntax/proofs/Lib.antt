@@ -9,3 +9,6 @@ pub mod Tests
 pub mod Skips
 pub mod Decisions
 pub mod ListSteps
+pub mod Complete
+pub mod Laws
+pub mod Exact

@@ -40,15 +40,6 @@ abbrev pub no_or : Option Token → Bool
 no_or (Some token.Or) = false
 no_or _ = true
 
-abbrev pub no_relation : Option Token → Bool
-no_relation (Some token.Equal) = false
-no_relation (Some token.NotEqual) = false
-no_relation (Some token.Less) = false
-no_relation (Some token.AtMost) = false
-no_relation (Some token.Greater) = false
-no_relation (Some token.AtLeast) = false
-no_relation _ = true
-
 abbrev pub no_sign : Option Token → Bool
 no_sign (Some token.Plus) = false
 no_sign (Some token.Minus) = false

@@ -497,6 +497,15 @@ abbrev pub no_name : Option Token → Bool
 no_name (Some (token.Name n)) = false
 no_name _ = true
 
+abbrev pub no_relation : Option Token → Bool
+no_relation (Some token.Equal) = false
+no_relation (Some token.NotEqual) = false
+no_relation (Some token.Less) = false
+no_relation (Some token.AtMost) = false
+no_relation (Some token.Greater) = false
+no_relation (Some token.AtLeast) = false
+no_relation _ = true
+
 abbrev pub no_close_round : Option Token → Bool
 no_close_round (Some token.CloseRound) = false
 no_close_round _ = true
@@ -549,3 +558,7 @@ Halts a (fault.Deep place) = (p : Placed) × (rest : List Placed) × (a.left ≡
 abbrev pub PassesOr : Ahead → Ahead → Result Place SyntaxFault → Type 0
 PassesOr a b (Ok place) = Passes a place b
 PassesOr a b (Err e) = Halts a e
+
+-- the answer to a whole text
+abbrev pub answer_of : List Placed → Answer
+answer_of text = reading 0 (Text ∷ []) (λ v. v.0) text

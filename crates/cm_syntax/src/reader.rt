@@ -9,8 +9,8 @@ ghost use Rattle.cm_syntax.specs.Machine as Machine;
 ghost use Rattle.cm_syntax.specs.Text as Text;
 ghost use Rattle.cm_syntax.specs.declared.fault.SyntaxFault.TheVariants as fault;
 
-use crate::mark::Mark;
 use crate::SyntaxFault;
+use crate::mark::Mark;
 use cm_model::{Name, NoMemory, Place};
 use cm_tokens::{Placed, Token, Tokens};
 use std::alloc::Global;
@@ -89,14 +89,7 @@ impl<'a> Reader<'a> {
     }
 
     /// Takes a mark.
-    #[tactic(
-        auto,
-        using(
-            crate::proofs::Decisions::gives_mark,
-            crate::proofs::Decisions::halts_mark,
-            crate::proofs::Decisions::stuck_mark
-        )
-    )]
+    #[tactic(auto, using(crate::proofs::Decisions::gives_mark, crate::proofs::Decisions::halts_mark, crate::proofs::Decisions::stuck_mark))]
     pub fn read_mark(&mut self, mark: Mark) -> Result<(), SyntaxFault>
         ensures reads { Reads (Exactly mark) (λ x. tt) self.old self.new result }
         ensures shorter { IfOk result (λ x. length self.new.left < length self.old.left) }
@@ -119,14 +112,7 @@ impl<'a> Reader<'a> {
     }
 
     /// Takes a name.
-    #[tactic(
-        auto,
-        using(
-            crate::proofs::Decisions::gives_name,
-            crate::proofs::Decisions::stuck_a_name,
-            crate::proofs::Steps::memory
-        )
-    )]
+    #[tactic(auto, using(crate::proofs::Decisions::gives_name, crate::proofs::Decisions::stuck_a_name, crate::proofs::Steps::memory))]
     pub fn read_name(&mut self) -> Result<Name, SyntaxFault>
         ensures reads { Reads AName (λ x. x) self.old self.new result }
         ensures shorter { IfOk result (λ x. length self.new.left < length self.old.left) }
@@ -139,14 +125,7 @@ impl<'a> Reader<'a> {
     }
 
     /// Takes a number.
-    #[tactic(
-        auto,
-        using(
-            crate::proofs::Decisions::gives_number,
-            crate::proofs::Decisions::halts_number,
-            crate::proofs::Decisions::stuck_a_number
-        )
-    )]
+    #[tactic(auto, using(crate::proofs::Decisions::gives_number, crate::proofs::Decisions::halts_number, crate::proofs::Decisions::stuck_a_number))]
     pub fn read_number(&mut self) -> Result<u32, SyntaxFault>
         ensures reads { Reads ANumber (λ x. x) self.old self.new result }
         ensures shorter { IfOk result (λ x. length self.new.left < length self.old.left) }

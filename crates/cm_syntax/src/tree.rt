@@ -15,26 +15,77 @@ pub struct Tree {
 #[derive(Drop)]
 pub enum Decl {
     /// `sort NAME;`
-    Sort { at: Place, name: Name },
+    Sort {
+        at: Place,
+        name: Name,
+    },
     /// `int NAME LOW..HIGH;`
-    Int { at: Place, name: Name, low: Num, high: Num },
+    Int {
+        at: Place,
+        name: Name,
+        low: Num,
+        high: Num,
+    },
     /// `enum NAME { FIRST, MORE }`
-    Enum { at: Place, name: Name, first: Name, more: List<Name> },
+    Enum {
+        at: Place,
+        name: Name,
+        first: Name,
+        more: List<Name>,
+    },
     /// `record NAME { FIRST, MORE }`
-    Record { at: Place, name: Name, first: Part, more: List<Part> },
+    Record {
+        at: Place,
+        name: Name,
+        first: Part,
+        more: List<Part>,
+    },
     /// `state NAME: VALUE;`
-    Cell { at: Place, name: Name, value: Type },
+    Cell {
+        at: Place,
+        name: Name,
+        value: Type,
+    },
     /// `state NAME: VALUE where INVARIANT;`
-    CellWhere { at: Place, name: Name, value: Type, invariant: Expr },
+    CellWhere {
+        at: Place,
+        name: Name,
+        value: Type,
+        invariant: Expr,
+    },
     /// `state NAME: map KEY -> VALUE;`
-    Map { at: Place, name: Name, key: Type, value: Type },
+    Map {
+        at: Place,
+        name: Name,
+        key: Type,
+        value: Type,
+    },
     /// `state NAME: map KEY -> VALUE where INVARIANT;`
-    MapWhere { at: Place, name: Name, key: Type, value: Type, invariant: Expr },
+    MapWhere {
+        at: Place,
+        name: Name,
+        key: Type,
+        value: Type,
+        invariant: Expr,
+    },
     /// `fn NAME(PARAMS) -> REPLY BODY`
-    Function { at: Place, name: Name, params: List<Part>, reply: Type, body: Block },
+    Function {
+        at: Place,
+        name: Name,
+        params: List<Part>,
+        reply: Type,
+        body: Block,
+    },
     /// `call NAME(PARAMS; internal INTERNAL) -> REPLY BODY`. Where `internal` is empty, the word is
     /// not written.
-    Call { at: Place, name: Name, params: List<Part>, internal: List<Part>, reply: Type, body: Block },
+    Call {
+        at: Place,
+        name: Name,
+        params: List<Part>,
+        internal: List<Part>,
+        reply: Type,
+        body: Block,
+    },
 }
 
 /// An end of an integer type's range, or a number in an expression.
@@ -76,40 +127,95 @@ pub struct Block {
 #[derive(Drop)]
 pub enum Stmt {
     /// `let NAME = VALUE;`
-    Let { at: Place, name: Name, value: Expr },
+    Let {
+        at: Place,
+        name: Name,
+        value: Expr,
+    },
     /// `NAME = VALUE;`
-    Assign { at: Place, name: Name, value: Expr },
+    Assign {
+        at: Place,
+        name: Name,
+        value: Expr,
+    },
     /// `NAME[KEY] = VALUE;`
-    AssignAt { at: Place, name: Name, key: Expr, value: Expr },
+    AssignAt {
+        at: Place,
+        name: Name,
+        key: Expr,
+        value: Expr,
+    },
     /// `if TEST YES`
-    If { at: Place, test: Expr, yes: Block },
+    If {
+        at: Place,
+        test: Expr,
+        yes: Block,
+    },
     /// `if TEST YES else OTHER`
-    IfElse { at: Place, test: Expr, yes: Block, other: Block },
+    IfElse {
+        at: Place,
+        test: Expr,
+        yes: Block,
+        other: Block,
+    },
     /// `case OF { none NOTHING some NAME SOMETHING }`
-    Case { at: Place, of: Expr, nothing: Block, name: Name, something: Block },
+    Case {
+        at: Place,
+        of: Expr,
+        nothing: Block,
+        name: Name,
+        something: Block,
+    },
     /// `assume TEST;`
-    Assume { at: Place, test: Expr },
+    Assume {
+        at: Place,
+        test: Expr,
+    },
     /// `return VALUE;`
-    Return { at: Place, value: Expr },
+    Return {
+        at: Place,
+        value: Expr,
+    },
 }
 
 /// An expression: comparisons joined by `and` alone or by `or` alone.
 #[cycle(expressions)]
 #[derive(Drop)]
 pub enum Expr {
-    Single { at: Place, only: Cmp },
+    Single {
+        at: Place,
+        only: Cmp,
+    },
     /// `FIRST and SECOND and ..`
-    All { at: Place, first: Cmp, second: Cmp, more: List<Cmp> },
+    All {
+        at: Place,
+        first: Cmp,
+        second: Cmp,
+        more: List<Cmp>,
+    },
     /// `FIRST or SECOND or ..`
-    Any { at: Place, first: Cmp, second: Cmp, more: List<Cmp> },
+    Any {
+        at: Place,
+        first: Cmp,
+        second: Cmp,
+        more: List<Cmp>,
+    },
 }
 
 /// A comparison, or what may stand on its side.
 #[cycle(expressions)]
 #[derive(Drop)]
 pub enum Cmp {
-    Side { at: Place, only: Sum },
-    Compared { at: Place, left: Sum, relation: Relation, right: Sum },
+    Side {
+        at: Place,
+        only: Sum,
+    },
+    Compared {
+        at: Place,
+        left: Sum,
+        relation: Relation,
+        right: Sum,
+    },
 }
 
 /// How the sides of a comparison are related.
@@ -163,19 +269,48 @@ pub struct Set {
 #[cycle(expressions)]
 #[derive(Drop)]
 pub enum Prim {
-    Number { at: Place, value: Num },
-    True { at: Place },
-    False { at: Place },
-    It { at: Place },
-    Name { at: Place, name: Name },
+    Number {
+        at: Place,
+        value: Num,
+    },
+    True {
+        at: Place,
+    },
+    False {
+        at: Place,
+    },
+    It {
+        at: Place,
+    },
+    Name {
+        at: Place,
+        name: Name,
+    },
     /// `NAME[KEY]`
-    Entry { at: Place, name: Name, key: Boxed<Expr> },
+    Entry {
+        at: Place,
+        name: Name,
+        key: Boxed<Expr>,
+    },
     /// `NAME(ARGS)`
-    Apply { at: Place, name: Name, args: List<Expr> },
+    Apply {
+        at: Place,
+        name: Name,
+        args: List<Expr>,
+    },
     /// `none(INNER)`
-    NoneOf { at: Place, inner: Type },
+    NoneOf {
+        at: Place,
+        inner: Type,
+    },
     /// `some(OF)`
-    SomeOf { at: Place, of: Boxed<Expr> },
+    SomeOf {
+        at: Place,
+        of: Boxed<Expr>,
+    },
     /// `(INNER)`
-    Group { at: Place, inner: Boxed<Expr> },
+    Group {
+        at: Place,
+        inner: Boxed<Expr>,
+    },
 }

@@ -128,10 +128,7 @@ impl<'a> Reader<'a> {
     }
 
     /// Parts with commas between them, or none.
-    #[tactic(
-        auto,
-        using(crate::proofs::Skips::skip_params)
-    )]
+    #[tactic(auto, using(crate::proofs::Skips::skip_params))]
     pub fn read_params(&mut self) -> Result<List<Part>, SyntaxFault>
         ensures { Reads Params (λ x. x) self.old self.new result }
     {
@@ -140,6 +137,7 @@ impl<'a> Reader<'a> {
             _ => Ok(List::new(self.alloc())),
         }
     }
+
     #[tactic(auto, using(crate::proofs::TypeSteps::steps_params))]
     fn read_some_params(&mut self) -> Result<List<Part>, SyntaxFault>
         requires { starts_name (head self.old.left) ≡ true }
@@ -151,10 +149,7 @@ impl<'a> Reader<'a> {
     }
 
     /// A semicolon, the word `internal` and parts, or nothing.
-    #[tactic(
-        auto,
-        using(crate::proofs::Skips::skip_internals)
-    )]
+    #[tactic(auto, using(crate::proofs::Skips::skip_internals))]
     pub fn read_internals(&mut self) -> Result<List<Part>, SyntaxFault>
         ensures { Reads Internals (λ x. x) self.old self.new result }
     {
