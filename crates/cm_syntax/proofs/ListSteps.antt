@@ -39,7 +39,7 @@ use Rattle.cm_syntax.specs.Spelling.{set_of, post_of, relation_token}
 use Rattle.cm_syntax.specs.Text.{place_of}
 use Rattle.cm_syntax.specs.Machine as m
 use Rattle.cm_syntax.specs.Machine.{Exactly, AName, ANumber, ANum, AType, APart, MoreParts, Params, Internals, MoreNames, Key, Where, ADecl, Decls, ABlock, Stmts, AStmt, Index, Else, AnExpr, MoreCmps, Ands, Ors, ACmp, Right, ASum, AnOffset, AUnary, APost, Fields, With, MoreSets, ASet, APrim, BehindName, Args, MoreArgs, Text, Stack, Values, Shift, Takes, mapped, shift, reading, Ahead, head, Gives, followed_by, Partly, ValueOf, Stops, Passes, Halts, part_of, after_name, sum_of, cmp_of, expr_of, assign_of, if_of, block_of, state_of, tree_of, starts_number, starts_name, starts_num, no_name, no_relation, no_close_round, no_not}
-use Rattle.cm_syntax.proofs.Steps.{same_read, passes_to, halts_at, stops_by, memory}
+use Rattle.cm_syntax.proofs.Steps.{same_read, passes_to, halts_at, stops_by, memory, reads_ok, reads_err}
 use Rattle.std.proofs.lemmas.List.{append-nil}
 use Rattle.cm_syntax.proofs.Tests.{no_comma, no_semicolon, no_map, no_where, no_open_square, no_else, no_joint, no_and, no_or, no_sign, no_dot, no_with, no_bracket, no_close_curly, no_end, no_type, no_prim, no_open_curly, no_stmt, no_decl, no_num, no_number}
 use Rattle.cm_syntax.proofs.Skips.{skip_more_parts, skip_more_names, skip_more_sets, skip_more_args, skip_ands, skip_ors, skip_fields}
@@ -72,7 +72,7 @@ pub ends_more_parts : (a b : Ahead) (xs : List Part) → Partly MoreParts follow
 unfolding Partly Gives
 ends_more_parts a b xs part h = λ st k. part st k ∙ skip_more_parts b h st (λ v. k (xs ++ v.0, v.1)) ∙ ap (λ ys. reading b.opened st (λ v. k (ys, v)) b.left) (append-nil xs)
 
-pub ruleset items_more_parts = (none_more_parts, grow_more_parts, halts_more_parts, stops_more_parts, ends_more_parts, memory)
+pub ruleset items_more_parts = (none_more_parts, grow_more_parts, halts_more_parts, stops_more_parts, ends_more_parts, memory, reads_ok, reads_err)
 
 pub none_more_names : (a : Ahead) (xs : ValueOf MoreNames) → xs ≡ [] → Partly MoreNames followed_by xs a a
 unfolding Partly
@@ -102,7 +102,7 @@ pub ends_more_names : (a b : Ahead) (xs : List (List ℕ)) → Partly MoreNames 
 unfolding Partly Gives
 ends_more_names a b xs part h = λ st k. part st k ∙ skip_more_names b h st (λ v. k (xs ++ v.0, v.1)) ∙ ap (λ ys. reading b.opened st (λ v. k (ys, v)) b.left) (append-nil xs)
 
-pub ruleset items_more_names = (none_more_names, grow_more_names, halts_more_names, stops_more_names, ends_more_names, memory)
+pub ruleset items_more_names = (none_more_names, grow_more_names, halts_more_names, stops_more_names, ends_more_names, memory, reads_ok, reads_err)
 
 pub none_more_sets : (a : Ahead) (xs : ValueOf MoreSets) → xs ≡ [] → Partly MoreSets followed_by xs a a
 unfolding Partly
@@ -132,7 +132,7 @@ pub ends_more_sets : (a b : Ahead) (xs : List Set) → Partly MoreSets followed_
 unfolding Partly Gives
 ends_more_sets a b xs part h = λ st k. part st k ∙ skip_more_sets b h st (λ v. k (xs ++ v.0, v.1)) ∙ ap (λ ys. reading b.opened st (λ v. k (ys, v)) b.left) (append-nil xs)
 
-pub ruleset items_more_sets = (none_more_sets, grow_more_sets, halts_more_sets, stops_more_sets, ends_more_sets, memory)
+pub ruleset items_more_sets = (none_more_sets, grow_more_sets, halts_more_sets, stops_more_sets, ends_more_sets, memory, reads_ok, reads_err)
 
 pub none_more_args : (a : Ahead) (xs : ValueOf MoreArgs) → xs ≡ [] → Partly MoreArgs followed_by xs a a
 unfolding Partly
@@ -162,7 +162,7 @@ pub ends_more_args : (a b : Ahead) (xs : List Expr) → Partly MoreArgs followed
 unfolding Partly Gives
 ends_more_args a b xs part h = λ st k. part st k ∙ skip_more_args b h st (λ v. k (xs ++ v.0, v.1)) ∙ ap (λ ys. reading b.opened st (λ v. k (ys, v)) b.left) (append-nil xs)
 
-pub ruleset items_more_args = (none_more_args, grow_more_args, halts_more_args, stops_more_args, ends_more_args, memory)
+pub ruleset items_more_args = (none_more_args, grow_more_args, halts_more_args, stops_more_args, ends_more_args, memory, reads_ok, reads_err)
 
 pub none_ands : (a : Ahead) (xs : ValueOf Ands) → xs ≡ [] → Partly Ands followed_by xs a a
 unfolding Partly
@@ -192,7 +192,7 @@ pub ends_ands : (a b : Ahead) (xs : List Cmp) → Partly Ands followed_by xs a b
 unfolding Partly Gives
 ends_ands a b xs part h = λ st k. part st k ∙ skip_ands b h st (λ v. k (xs ++ v.0, v.1)) ∙ ap (λ ys. reading b.opened st (λ v. k (ys, v)) b.left) (append-nil xs)
 
-pub ruleset items_ands = (none_ands, grow_ands, halts_ands, stops_ands, ends_ands, memory)
+pub ruleset items_ands = (none_ands, grow_ands, halts_ands, stops_ands, ends_ands, memory, reads_ok, reads_err)
 
 pub none_ors : (a : Ahead) (xs : ValueOf Ors) → xs ≡ [] → Partly Ors followed_by xs a a
 unfolding Partly
@@ -222,7 +222,7 @@ pub ends_ors : (a b : Ahead) (xs : List Cmp) → Partly Ors followed_by xs a b �
 unfolding Partly Gives
 ends_ors a b xs part h = λ st k. part st k ∙ skip_ors b h st (λ v. k (xs ++ v.0, v.1)) ∙ ap (λ ys. reading b.opened st (λ v. k (ys, v)) b.left) (append-nil xs)
 
-pub ruleset items_ors = (none_ors, grow_ors, halts_ors, stops_ors, ends_ors, memory)
+pub ruleset items_ors = (none_ors, grow_ors, halts_ors, stops_ors, ends_ors, memory, reads_ok, reads_err)
 
 pub none_fields : (a : Ahead) (xs : ValueOf Fields) → xs ≡ [] → Partly Fields followed_by xs a a
 unfolding Partly
@@ -252,7 +252,7 @@ pub ends_fields : (a b : Ahead) (xs : List (List ℕ)) → Partly Fields followe
 unfolding Partly Gives
 ends_fields a b xs part h = λ st k. part st k ∙ skip_fields b h st (λ v. k (xs ++ v.0, v.1)) ∙ ap (λ ys. reading b.opened st (λ v. k (ys, v)) b.left) (append-nil xs)
 
-pub ruleset items_fields = (none_fields, grow_fields, halts_fields, stops_fields, ends_fields, memory)
+pub ruleset items_fields = (none_fields, grow_fields, halts_fields, stops_fields, ends_fields, memory, reads_ok, reads_err)
 
 pub none_stmts : (a : Ahead) (xs : ValueOf Stmts) → xs ≡ [] → Partly Stmts followed_by xs a a
 unfolding Partly
@@ -286,7 +286,7 @@ pub ends_stmts : (a b c : Ahead) (xs : List Stmt) (p : Place) → Partly Stmts f
 unfolding Partly Gives
 ends_stmts a b c xs p part h q = λ st k. part st k ∙ passes_to Stmts token.CloseCurly b c p st st (λ v. ([], v)) h q refl (λ v. k (xs ++ v.0, v.1)) ∙ ap (λ ys. reading c.opened st (λ v. k (ys, v)) c.left) (append-nil xs)
 
-pub ruleset items_stmts = (none_stmts, grow_stmts, halts_stmts, stops_stmts, ends_stmts, memory)
+pub ruleset items_stmts = (none_stmts, grow_stmts, halts_stmts, stops_stmts, ends_stmts, memory, reads_ok, reads_err)
 
 pub none_decls : (a : Ahead) (xs : ValueOf Decls) → xs ≡ [] → Partly Decls followed_by xs a a
 unfolding Partly
@@ -320,4 +320,4 @@ pub ends_decls : (a b c : Ahead) (xs : List Decl) (p : Place) → Partly Decls f
 unfolding Partly Gives
 ends_decls a b c xs p part h q = λ st k. part st k ∙ passes_to Decls token.End b c p st st (λ v. ([], v)) h q refl (λ v. k (xs ++ v.0, v.1)) ∙ ap (λ ys. reading c.opened st (λ v. k (ys, v)) c.left) (append-nil xs)
 
-pub ruleset items_decls = (none_decls, grow_decls, halts_decls, stops_decls, ends_decls, memory)
+pub ruleset items_decls = (none_decls, grow_decls, halts_decls, stops_decls, ends_decls, memory, reads_ok, reads_err)

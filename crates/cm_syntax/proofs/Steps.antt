@@ -78,3 +78,11 @@ unfolding Stops
 stops_by s s' a b fault.Memory leads h = tt
 stops_by s s' a b (fault.Syntax place) leads h = (h.0, h.1, λ st k. let w = leads st k in w.2 ∙ h.2 w.0 w.1)
 stops_by s s' a b (fault.Deep place) leads h = (h.0, h.1, λ st k. let w = leads st k in w.2 ∙ h.2 w.0 w.1)
+
+-- A result that is known to be a value, or a fault.
+
+pub reads_ok : {X : Type 0} (s : Symbol) (value : X → ValueOf s) (a b : Ahead) (r : Result X SyntaxFault) (x : X) → r ≡ Ok x → Reads s value a b r → Gives s a (value x) b
+reads_ok s value a b r x e h = subst (Reads s value a b) e h
+
+pub reads_err : {X : Type 0} (s : Symbol) (value : X → ValueOf s) (a b : Ahead) (r : Result X SyntaxFault) (e : SyntaxFault) → r ≡ Err e → Reads s value a b r → Stops s a e
+reads_err s value a b r x e h = subst (Reads s value a b) e h

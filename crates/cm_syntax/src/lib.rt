@@ -1,7 +1,7 @@
 //! The tree of a model's text.
 #![tactic(auto)]
 
-//mod expr;
+mod expr;
 mod fault;
 mod lists;
 mod mark;
