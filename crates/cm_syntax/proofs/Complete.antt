@@ -450,15 +450,15 @@ module _ (at : Places) (nowhere : at [] ≡ place_of []) where
   post_good : (f : Form Prim) (ns : List (List ℕ)) (fs : List (Form Set)) → GoodPrim f → Each GoodSet fs → GoodPost (node (λ a y. post_of a y.0 ns y.1.0) (part f (written (names_after token.Dot ns) (part (sets_form fs) nothing))))
   post_good f ns fs h each = record {
     taken = λ st k ts ok.
-      let us : List Token = (sets_form fs).writes ts in
-      let ws : List Token = names_after token.Dot ns us in
-      let all : List Token = f.writes ws in
-      let a : Place = place_of (set_places at all) in
-      same_run (APrim ∷ Fields ∷ With ∷ st) (APost ∷ st) (λ v. (post_of a v.0 v.1.0 v.1.1.0, v.1.1.1)) k (set_places at all) refl
-      ∙ h.taken (Fields ∷ With ∷ st) (λ v. k (post_of a v.0 v.1.0 v.1.1.0, v.1.1.1)) ws (fields_high ns us (sets_high fs ts ok))
-      ∙ fields_taken ns (With ∷ st) (λ v. k (post_of a (f.placed at ws) v.0 v.1.0, v.1.1)) us (high_dot (first us) (sets_high fs ts ok))
-      ∙ with_taken fs each st (λ v. k (post_of a (f.placed at ws) ns v.0, v.1)) ts ok
-      ∙ ap (λ x. running st (λ v. k (post_of x (f.placed at ws) ns ((sets_form fs).placed at ts), v)) (set_places at ts)) (first_place all);
+        let us : List Token = (sets_form fs).writes ts in
+        let ws : List Token = names_after token.Dot ns us in
+        let all : List Token = f.writes ws in
+        let a : Place = place_of (set_places at all) in
+        same_run (APrim ∷ Fields ∷ With ∷ st) (APost ∷ st) (λ v. (post_of a v.0 v.1.0 v.1.1.0, v.1.1.1)) k (set_places at all) refl
+        ∙ h.taken (Fields ∷ With ∷ st) (λ v. k (post_of a v.0 v.1.0 v.1.1.0, v.1.1.1)) ws (fields_high ns us (sets_high fs ts ok))
+        ∙ fields_taken ns (With ∷ st) (λ v. k (post_of a (f.placed at ws) v.0 v.1.0, v.1.1)) us (high_dot (first us) (sets_high fs ts ok))
+        ∙ with_taken fs each st (λ v. k (post_of a (f.placed at ws) ns v.0, v.1)) ts ok
+        ∙ ap (λ x. running st (λ v. k (post_of x (f.placed at ws) ns ((sets_form fs).placed at ts), v)) (set_places at ts)) (first_place all);
     starts = λ ts. h.starts (names_after token.Dot ns ((sets_form fs).writes ts));
   }
 
@@ -469,11 +469,11 @@ module _ (at : Places) (nowhere : at [] ≡ place_of []) where
   bare_good : (f : Form Post) → GoodPost f → GoodUnary (node (λ a y. unary.Bare a y.0) (part f nothing))
   bare_good f h = record {
     taken = λ st k ts ok.
-      let all : List Token = f.writes ts in
-      let a : Place = place_of (set_places at all) in
-      same_run (APost ∷ st) (AUnary ∷ st) (λ v. (unary.Bare a v.0, v.1)) k (set_places at all) (no_not_at (head (set_places at all)) a st (subst (λ o. no_not o ≡ true) (head_is all) (post_no_not (first all) (h.starts ts))))
-      ∙ h.taken st (λ v. k (unary.Bare a v.0, v.1)) ts ok
-      ∙ ap (λ x. running st (λ v. k (unary.Bare x (f.placed at ts), v)) (set_places at ts)) (first_place all);
+        let all : List Token = f.writes ts in
+        let a : Place = place_of (set_places at all) in
+        same_run (APost ∷ st) (AUnary ∷ st) (λ v. (unary.Bare a v.0, v.1)) k (set_places at all) (no_not_at (head (set_places at all)) a st (subst (λ o. no_not o ≡ true) (head_is all) (post_no_not (first all) (h.starts ts))))
+        ∙ h.taken st (λ v. k (unary.Bare a v.0, v.1)) ts ok
+        ∙ ap (λ x. running st (λ v. k (unary.Bare x (f.placed at ts), v)) (set_places at ts)) (first_place all);
     starts = λ ts. post_begins (first (f.writes ts)) (h.starts ts);
   }
 
@@ -486,48 +486,48 @@ module _ (at : Places) (nowhere : at [] ≡ place_of []) where
   term_good : (f : Form Unary) → GoodUnary f → GoodSum (node (λ a y. sum.Term a y.0) (part f nothing))
   term_good f h = record {
     taken = λ st k ts ok.
-      let all : List Token = f.writes ts in
-      let a : Place = place_of (set_places at all) in
-      same_run (AUnary ∷ AnOffset ∷ st) (ASum ∷ st) (λ v. (sum_of a v.0 v.1.0, v.1.1)) k (set_places at all) refl
-      ∙ h.taken (AnOffset ∷ st) (λ v. k (sum_of a v.0 v.1.0, v.1.1)) ts (omega arith)
-      ∙ skip_an_offset st (λ v. k (sum_of a (f.placed at ts) v.0, v.1)) ts (high_sign (first ts) ok)
-      ∙ ap (λ x. running st (λ v. k (sum.Term x (f.placed at ts), v)) (set_places at ts)) (first_place all);
+        let all : List Token = f.writes ts in
+        let a : Place = place_of (set_places at all) in
+        same_run (AUnary ∷ AnOffset ∷ st) (ASum ∷ st) (λ v. (sum_of a v.0 v.1.0, v.1.1)) k (set_places at all) refl
+        ∙ h.taken (AnOffset ∷ st) (λ v. k (sum_of a v.0 v.1.0, v.1.1)) ts (omega arith)
+        ∙ skip_an_offset st (λ v. k (sum_of a (f.placed at ts) v.0, v.1)) ts (high_sign (first ts) ok)
+        ∙ ap (λ x. running st (λ v. k (sum.Term x (f.placed at ts), v)) (set_places at ts)) (first_place all);
     starts = h.starts;
   }
 
   plus_good : (f : Form Unary) (n : ℕ) → GoodUnary f → GoodSum (node (λ a y. sum.Plus a y.0 n) (part f (word token.Plus (word (token.Number n) nothing))))
   plus_good f n h = record {
     taken = λ st k ts ok.
-      let us : List Token = token.Plus ∷ token.Number n ∷ ts in
-      let all : List Token = f.writes us in
-      let a : Place = place_of (set_places at all) in
-      same_run (AUnary ∷ AnOffset ∷ st) (ASum ∷ st) (λ v. (sum_of a v.0 v.1.0, v.1.1)) k (set_places at all) refl
-      ∙ h.taken (AnOffset ∷ st) (λ v. k (sum_of a v.0 v.1.0, v.1.1)) us (lit< tt)
-      ∙ ap (λ x. running st (λ v. k (sum.Plus x (f.placed at us) n, v)) (set_places at ts)) (first_place all);
+        let us : List Token = token.Plus ∷ token.Number n ∷ ts in
+        let all : List Token = f.writes us in
+        let a : Place = place_of (set_places at all) in
+        same_run (AUnary ∷ AnOffset ∷ st) (ASum ∷ st) (λ v. (sum_of a v.0 v.1.0, v.1.1)) k (set_places at all) refl
+        ∙ h.taken (AnOffset ∷ st) (λ v. k (sum_of a v.0 v.1.0, v.1.1)) us (lit< tt)
+        ∙ ap (λ x. running st (λ v. k (sum.Plus x (f.placed at us) n, v)) (set_places at ts)) (first_place all);
     starts = λ ts. h.starts (token.Plus ∷ token.Number n ∷ ts);
   }
 
   minus_good : (f : Form Unary) (n : ℕ) → GoodUnary f → GoodSum (node (λ a y. sum.Minus a y.0 n) (part f (word token.Minus (word (token.Number n) nothing))))
   minus_good f n h = record {
     taken = λ st k ts ok.
-      let us : List Token = token.Minus ∷ token.Number n ∷ ts in
-      let all : List Token = f.writes us in
-      let a : Place = place_of (set_places at all) in
-      same_run (AUnary ∷ AnOffset ∷ st) (ASum ∷ st) (λ v. (sum_of a v.0 v.1.0, v.1.1)) k (set_places at all) refl
-      ∙ h.taken (AnOffset ∷ st) (λ v. k (sum_of a v.0 v.1.0, v.1.1)) us (lit< tt)
-      ∙ ap (λ x. running st (λ v. k (sum.Minus x (f.placed at us) n, v)) (set_places at ts)) (first_place all);
+        let us : List Token = token.Minus ∷ token.Number n ∷ ts in
+        let all : List Token = f.writes us in
+        let a : Place = place_of (set_places at all) in
+        same_run (AUnary ∷ AnOffset ∷ st) (ASum ∷ st) (λ v. (sum_of a v.0 v.1.0, v.1.1)) k (set_places at all) refl
+        ∙ h.taken (AnOffset ∷ st) (λ v. k (sum_of a v.0 v.1.0, v.1.1)) us (lit< tt)
+        ∙ ap (λ x. running st (λ v. k (sum.Minus x (f.placed at us) n, v)) (set_places at ts)) (first_place all);
     starts = λ ts. h.starts (token.Minus ∷ token.Number n ∷ ts);
   }
 
   side_good : (f : Form Sum) → GoodSum f → GoodCmp (node (λ a y. cmp.Side a y.0) (part f nothing))
   side_good f h = record {
     taken = λ st k ts ok.
-      let all : List Token = f.writes ts in
-      let a : Place = place_of (set_places at all) in
-      same_run (ASum ∷ Right ∷ st) (ACmp ∷ st) (λ v. (cmp_of a v.0 v.1.0, v.1.1)) k (set_places at all) refl
-      ∙ h.taken (Right ∷ st) (λ v. k (cmp_of a v.0 v.1.0, v.1.1)) ts (omega arith)
-      ∙ skip_right st (λ v. k (cmp_of a (f.placed at ts) v.0, v.1)) ts (high_relation (first ts) ok)
-      ∙ ap (λ x. running st (λ v. k (cmp.Side x (f.placed at ts), v)) (set_places at ts)) (first_place all);
+        let all : List Token = f.writes ts in
+        let a : Place = place_of (set_places at all) in
+        same_run (ASum ∷ Right ∷ st) (ACmp ∷ st) (λ v. (cmp_of a v.0 v.1.0, v.1.1)) k (set_places at all) refl
+        ∙ h.taken (Right ∷ st) (λ v. k (cmp_of a v.0 v.1.0, v.1.1)) ts (omega arith)
+        ∙ skip_right st (λ v. k (cmp_of a (f.placed at ts) v.0, v.1)) ts (high_relation (first ts) ok)
+        ∙ ap (λ x. running st (λ v. k (cmp.Side x (f.placed at ts), v)) (set_places at ts)) (first_place all);
     starts = h.starts;
   }
 
@@ -542,26 +542,26 @@ module _ (at : Places) (nowhere : at [] ≡ place_of []) where
   compared_good : (f : Form Sum) (r : Relation) (g : Form Sum) → GoodSum f → GoodSum g → GoodCmp (node (λ a y. cmp.Compared a y.0 r y.1.0) (part f (word (relation_token r) (part g nothing))))
   compared_good f r g h i = record {
     taken = λ st k ts ok.
-      let us : List Token = relation_token r ∷ g.writes ts in
-      let all : List Token = f.writes us in
-      let a : Place = place_of (set_places at all) in
-      same_run (ASum ∷ Right ∷ st) (ACmp ∷ st) (λ v. (cmp_of a v.0 v.1.0, v.1.1)) k (set_places at all) refl
-      ∙ h.taken (Right ∷ st) (λ v. k (cmp_of a v.0 v.1.0, v.1.1)) us (relation_high r)
-      ∙ right_taken r st (λ v. k (cmp_of a (f.placed at us) v.0, v.1)) (g.writes ts)
-      ∙ i.taken st (λ v. k (cmp.Compared a (f.placed at us) r v.0, v.1)) ts (omega arith)
-      ∙ ap (λ x. running st (λ v. k (cmp.Compared x (f.placed at us) r (g.placed at ts), v)) (set_places at ts)) (first_place all);
+        let us : List Token = relation_token r ∷ g.writes ts in
+        let all : List Token = f.writes us in
+        let a : Place = place_of (set_places at all) in
+        same_run (ASum ∷ Right ∷ st) (ACmp ∷ st) (λ v. (cmp_of a v.0 v.1.0, v.1.1)) k (set_places at all) refl
+        ∙ h.taken (Right ∷ st) (λ v. k (cmp_of a v.0 v.1.0, v.1.1)) us (relation_high r)
+        ∙ right_taken r st (λ v. k (cmp_of a (f.placed at us) v.0, v.1)) (g.writes ts)
+        ∙ i.taken st (λ v. k (cmp.Compared a (f.placed at us) r v.0, v.1)) ts (omega arith)
+        ∙ ap (λ x. running st (λ v. k (cmp.Compared x (f.placed at us) r (g.placed at ts), v)) (set_places at ts)) (first_place all);
     starts = λ ts. h.starts (relation_token r ∷ g.writes ts);
   }
 
   single_good : (f : Form Cmp) → GoodCmp f → GoodExpr (node (λ a y. expr.Single a y.0) (part f nothing))
   single_good f h = record {
     taken = λ st k ts ok.
-      let all : List Token = f.writes ts in
-      let a : Place = place_of (set_places at all) in
-      same_run (ACmp ∷ MoreCmps ∷ st) (AnExpr ∷ st) (λ v. (expr_of a v.0 v.1.0, v.1.1)) k (set_places at all) refl
-      ∙ h.taken (MoreCmps ∷ st) (λ v. k (expr_of a v.0 v.1.0, v.1.1)) ts (omega arith)
-      ∙ skip_more_cmps st (λ v. k (expr_of a (f.placed at ts) v.0, v.1)) ts (high_joint (first ts) ok)
-      ∙ ap (λ x. running st (λ v. k (expr.Single x (f.placed at ts), v)) (set_places at ts)) (first_place all);
+        let all : List Token = f.writes ts in
+        let a : Place = place_of (set_places at all) in
+        same_run (ACmp ∷ MoreCmps ∷ st) (AnExpr ∷ st) (λ v. (expr_of a v.0 v.1.0, v.1.1)) k (set_places at all) refl
+        ∙ h.taken (MoreCmps ∷ st) (λ v. k (expr_of a v.0 v.1.0, v.1.1)) ts (omega arith)
+        ∙ skip_more_cmps st (λ v. k (expr_of a (f.placed at ts) v.0, v.1)) ts (high_joint (first ts) ok)
+        ∙ ap (λ x. running st (λ v. k (expr.Single x (f.placed at ts), v)) (set_places at ts)) (first_place all);
     starts = h.starts;
   }
 
@@ -578,15 +578,15 @@ module _ (at : Places) (nowhere : at [] ≡ place_of []) where
   all_good : (f g : Form Cmp) (fs : List (Form Cmp)) → GoodCmp f → GoodCmp g → Each GoodCmp fs → GoodExpr (node (λ a y. expr.All a y.0 y.1.0 y.1.1.0) (part f (word token.And (part g (part (each_after token.And fs) nothing)))))
   all_good f g fs h i each = record {
     taken = λ st k ts ok.
-      let us : List Token = (each_after token.And fs).writes ts in
-      let ws : List Token = token.And ∷ g.writes us in
-      let all : List Token = f.writes ws in
-      let a : Place = place_of (set_places at all) in
-      same_run (ACmp ∷ MoreCmps ∷ st) (AnExpr ∷ st) (λ v. (expr_of a v.0 v.1.0, v.1.1)) k (set_places at all) refl
-      ∙ h.taken (MoreCmps ∷ st) (λ v. k (expr_of a v.0 v.1.0, v.1.1)) ws (lit< tt)
-      ∙ i.taken (Ands ∷ st) (λ v. k (expr.All a (f.placed at ws) v.0 v.1.0, v.1.1)) us (ands_high fs ts ok)
-      ∙ ands_taken fs each st (λ v. k (expr.All a (f.placed at ws) (g.placed at us) v.0, v.1)) ts ok
-      ∙ ap (λ x. running st (λ v. k (expr.All x (f.placed at ws) (g.placed at us) ((each_after token.And fs).placed at ts), v)) (set_places at ts)) (first_place all);
+        let us : List Token = (each_after token.And fs).writes ts in
+        let ws : List Token = token.And ∷ g.writes us in
+        let all : List Token = f.writes ws in
+        let a : Place = place_of (set_places at all) in
+        same_run (ACmp ∷ MoreCmps ∷ st) (AnExpr ∷ st) (λ v. (expr_of a v.0 v.1.0, v.1.1)) k (set_places at all) refl
+        ∙ h.taken (MoreCmps ∷ st) (λ v. k (expr_of a v.0 v.1.0, v.1.1)) ws (lit< tt)
+        ∙ i.taken (Ands ∷ st) (λ v. k (expr.All a (f.placed at ws) v.0 v.1.0, v.1.1)) us (ands_high fs ts ok)
+        ∙ ands_taken fs each st (λ v. k (expr.All a (f.placed at ws) (g.placed at us) v.0, v.1)) ts ok
+        ∙ ap (λ x. running st (λ v. k (expr.All x (f.placed at ws) (g.placed at us) ((each_after token.And fs).placed at ts), v)) (set_places at ts)) (first_place all);
     starts = λ ts. h.starts (token.And ∷ g.writes ((each_after token.And fs).writes ts));
   }
 
@@ -603,15 +603,15 @@ module _ (at : Places) (nowhere : at [] ≡ place_of []) where
   any_good : (f g : Form Cmp) (fs : List (Form Cmp)) → GoodCmp f → GoodCmp g → Each GoodCmp fs → GoodExpr (node (λ a y. expr.Any a y.0 y.1.0 y.1.1.0) (part f (word token.Or (part g (part (each_after token.Or fs) nothing)))))
   any_good f g fs h i each = record {
     taken = λ st k ts ok.
-      let us : List Token = (each_after token.Or fs).writes ts in
-      let ws : List Token = token.Or ∷ g.writes us in
-      let all : List Token = f.writes ws in
-      let a : Place = place_of (set_places at all) in
-      same_run (ACmp ∷ MoreCmps ∷ st) (AnExpr ∷ st) (λ v. (expr_of a v.0 v.1.0, v.1.1)) k (set_places at all) refl
-      ∙ h.taken (MoreCmps ∷ st) (λ v. k (expr_of a v.0 v.1.0, v.1.1)) ws (lit< tt)
-      ∙ i.taken (Ors ∷ st) (λ v. k (expr.Any a (f.placed at ws) v.0 v.1.0, v.1.1)) us (ors_high fs ts ok)
-      ∙ ors_taken fs each st (λ v. k (expr.Any a (f.placed at ws) (g.placed at us) v.0, v.1)) ts ok
-      ∙ ap (λ x. running st (λ v. k (expr.Any x (f.placed at ws) (g.placed at us) ((each_after token.Or fs).placed at ts), v)) (set_places at ts)) (first_place all);
+        let us : List Token = (each_after token.Or fs).writes ts in
+        let ws : List Token = token.Or ∷ g.writes us in
+        let all : List Token = f.writes ws in
+        let a : Place = place_of (set_places at all) in
+        same_run (ACmp ∷ MoreCmps ∷ st) (AnExpr ∷ st) (λ v. (expr_of a v.0 v.1.0, v.1.1)) k (set_places at all) refl
+        ∙ h.taken (MoreCmps ∷ st) (λ v. k (expr_of a v.0 v.1.0, v.1.1)) ws (lit< tt)
+        ∙ i.taken (Ors ∷ st) (λ v. k (expr.Any a (f.placed at ws) v.0 v.1.0, v.1.1)) us (ors_high fs ts ok)
+        ∙ ors_taken fs each st (λ v. k (expr.Any a (f.placed at ws) (g.placed at us) v.0, v.1)) ts ok
+        ∙ ap (λ x. running st (λ v. k (expr.Any x (f.placed at ws) (g.placed at us) ((each_after token.Or fs).placed at ts), v)) (set_places at ts)) (first_place all);
     starts = λ ts. h.starts (token.Or ∷ g.writes ((each_after token.Or fs).writes ts));
   }
 
@@ -745,55 +745,55 @@ module _ (at : Places) (nowhere : at [] ≡ place_of []) where
   assign_good : (n : List ℕ) (f : Form Expr) → GoodExpr f → GoodStmt (node (λ a y. stmt.Assign a n y.0) (word (token.Name n) (word token.Assign (part f (word token.Semicolon nothing)))))
   assign_good n f h = record {
     taken = λ st k ts ok.
-      let a : Place = at (token.Name n ∷ token.Assign ∷ f.writes (token.Semicolon ∷ ts)) in
-      skip_index (Exactly mark.Assign ∷ AnExpr ∷ Exactly mark.Semicolon ∷ st) (λ v. k (assign_of a n v.0 v.1.1.0, v.1.1.1.1)) (token.Assign ∷ f.writes (token.Semicolon ∷ ts)) refl
-      ∙ h.taken (Exactly mark.Semicolon ∷ st) (λ v. k (stmt.Assign a n v.0, v.1.1)) (token.Semicolon ∷ ts) (lit< tt);
+        let a : Place = at (token.Name n ∷ token.Assign ∷ f.writes (token.Semicolon ∷ ts)) in
+        skip_index (Exactly mark.Assign ∷ AnExpr ∷ Exactly mark.Semicolon ∷ st) (λ v. k (assign_of a n v.0 v.1.1.0, v.1.1.1.1)) (token.Assign ∷ f.writes (token.Semicolon ∷ ts)) refl
+        ∙ h.taken (Exactly mark.Semicolon ∷ st) (λ v. k (stmt.Assign a n v.0, v.1.1)) (token.Semicolon ∷ ts) (lit< tt);
     starts = λ ts. refl;
   }
 
   assign_at_good : (n : List ℕ) (g f : Form Expr) → GoodExpr g → GoodExpr f → GoodStmt (node (λ a y. stmt.AssignAt a n y.0 y.1.0) (word (token.Name n) (word token.OpenSquare (part g (word token.CloseSquare (word token.Assign (part f (word token.Semicolon nothing))))))))
   assign_at_good n g f i h = record {
     taken = λ st k ts ok.
-      let us : List Token = token.CloseSquare ∷ token.Assign ∷ f.writes (token.Semicolon ∷ ts) in
-      let a : Place = at (token.Name n ∷ token.OpenSquare ∷ g.writes us) in
-      i.taken (Exactly mark.CloseSquare ∷ Exactly mark.Assign ∷ AnExpr ∷ Exactly mark.Semicolon ∷ st) (λ v. k (stmt.AssignAt a n v.0 v.1.1.1.0, v.1.1.1.1.1)) us (lit< tt)
-      ∙ h.taken (Exactly mark.Semicolon ∷ st) (λ v. k (stmt.AssignAt a n (g.placed at us) v.0, v.1.1)) (token.Semicolon ∷ ts) (lit< tt);
+        let us : List Token = token.CloseSquare ∷ token.Assign ∷ f.writes (token.Semicolon ∷ ts) in
+        let a : Place = at (token.Name n ∷ token.OpenSquare ∷ g.writes us) in
+        i.taken (Exactly mark.CloseSquare ∷ Exactly mark.Assign ∷ AnExpr ∷ Exactly mark.Semicolon ∷ st) (λ v. k (stmt.AssignAt a n v.0 v.1.1.1.0, v.1.1.1.1.1)) us (lit< tt)
+        ∙ h.taken (Exactly mark.Semicolon ∷ st) (λ v. k (stmt.AssignAt a n (g.placed at us) v.0, v.1.1)) (token.Semicolon ∷ ts) (lit< tt);
     starts = λ ts. refl;
   }
 
   if_good : (f : Form Expr) (g : Form Block) → GoodExpr f → GoodBlock g → GoodStmt (node (λ a y. stmt.If a y.0 y.1.0) (word token.If (part f (part g nothing))))
   if_good f g h i = record {
     taken = λ st k ts ok.
-      let us : List Token = g.writes ts in
-      let a : Place = at (token.If ∷ f.writes us) in
-      h.taken (ABlock ∷ Else ∷ st) (λ v. k (if_of a v.0 v.1.0 v.1.1.0, v.1.1.1)) us (block_high g i ts)
-      ∙ i.taken (Else ∷ st) (λ v. k (if_of a (f.placed at us) v.0 v.1.0, v.1.1)) ts tt
-      ∙ skip_else st (λ v. k (if_of a (f.placed at us) (g.placed at ts) v.0, v.1)) ts (high_else (first ts) ok);
+        let us : List Token = g.writes ts in
+        let a : Place = at (token.If ∷ f.writes us) in
+        h.taken (ABlock ∷ Else ∷ st) (λ v. k (if_of a v.0 v.1.0 v.1.1.0, v.1.1.1)) us (block_high g i ts)
+        ∙ i.taken (Else ∷ st) (λ v. k (if_of a (f.placed at us) v.0 v.1.0, v.1.1)) ts tt
+        ∙ skip_else st (λ v. k (if_of a (f.placed at us) (g.placed at ts) v.0, v.1)) ts (high_else (first ts) ok);
     starts = λ ts. refl;
   }
 
   if_else_good : (f : Form Expr) (g e : Form Block) → GoodExpr f → GoodBlock g → GoodBlock e → GoodStmt (node (λ a y. stmt.IfElse a y.0 y.1.0 y.1.1.0) (word token.If (part f (part g (word token.Else (part e nothing))))))
   if_else_good f g e h i j = record {
     taken = λ st k ts ok.
-      let ws : List Token = token.Else ∷ e.writes ts in
-      let us : List Token = g.writes ws in
-      let a : Place = at (token.If ∷ f.writes us) in
-      h.taken (ABlock ∷ Else ∷ st) (λ v. k (if_of a v.0 v.1.0 v.1.1.0, v.1.1.1)) us (block_high g i ws)
-      ∙ i.taken (Else ∷ st) (λ v. k (if_of a (f.placed at us) v.0 v.1.0, v.1.1)) ws tt
-      ∙ j.taken st (λ v. k (stmt.IfElse a (f.placed at us) (g.placed at ws) v.0, v.1)) ts tt;
+        let ws : List Token = token.Else ∷ e.writes ts in
+        let us : List Token = g.writes ws in
+        let a : Place = at (token.If ∷ f.writes us) in
+        h.taken (ABlock ∷ Else ∷ st) (λ v. k (if_of a v.0 v.1.0 v.1.1.0, v.1.1.1)) us (block_high g i ws)
+        ∙ i.taken (Else ∷ st) (λ v. k (if_of a (f.placed at us) v.0 v.1.0, v.1.1)) ws tt
+        ∙ j.taken st (λ v. k (stmt.IfElse a (f.placed at us) (g.placed at ws) v.0, v.1)) ts tt;
     starts = λ ts. refl;
   }
 
   case_good : (f : Form Expr) (g : Form Block) (n : List ℕ) (e : Form Block) → GoodExpr f → GoodBlock g → GoodBlock e → GoodStmt (node (λ a y. stmt.Case a y.0 y.1.0 n y.1.1.0) (word token.Case (part f (word token.OpenCurly (word token.Nothing (part g (word token.Something (word (token.Name n) (part e (word token.CloseCurly nothing))))))))))
   case_good f g n e h i j = record {
     taken = λ st k ts ok.
-      let xs : List Token = token.CloseCurly ∷ ts in
-      let ws : List Token = token.Something ∷ token.Name n ∷ e.writes xs in
-      let us : List Token = token.OpenCurly ∷ token.Nothing ∷ g.writes ws in
-      let a : Place = at (token.Case ∷ f.writes us) in
-      h.taken (Exactly mark.OpenCurly ∷ Exactly mark.Nothing ∷ ABlock ∷ Exactly mark.Something ∷ AName ∷ ABlock ∷ Exactly mark.CloseCurly ∷ st) (λ v. k (stmt.Case a v.0 v.1.1.1.0 v.1.1.1.1.1.0 v.1.1.1.1.1.1.0, v.1.1.1.1.1.1.1.1)) us (lit< tt)
-      ∙ i.taken (Exactly mark.Something ∷ AName ∷ ABlock ∷ Exactly mark.CloseCurly ∷ st) (λ v. k (stmt.Case a (f.placed at us) v.0 v.1.1.0 v.1.1.1.0, v.1.1.1.1.1)) ws tt
-      ∙ j.taken (Exactly mark.CloseCurly ∷ st) (λ v. k (stmt.Case a (f.placed at us) (g.placed at ws) n v.0, v.1.1)) xs tt;
+        let xs : List Token = token.CloseCurly ∷ ts in
+        let ws : List Token = token.Something ∷ token.Name n ∷ e.writes xs in
+        let us : List Token = token.OpenCurly ∷ token.Nothing ∷ g.writes ws in
+        let a : Place = at (token.Case ∷ f.writes us) in
+        h.taken (Exactly mark.OpenCurly ∷ Exactly mark.Nothing ∷ ABlock ∷ Exactly mark.Something ∷ AName ∷ ABlock ∷ Exactly mark.CloseCurly ∷ st) (λ v. k (stmt.Case a v.0 v.1.1.1.0 v.1.1.1.1.1.0 v.1.1.1.1.1.1.0, v.1.1.1.1.1.1.1.1)) us (lit< tt)
+        ∙ i.taken (Exactly mark.Something ∷ AName ∷ ABlock ∷ Exactly mark.CloseCurly ∷ st) (λ v. k (stmt.Case a (f.placed at us) v.0 v.1.1.0 v.1.1.1.0, v.1.1.1.1.1)) ws tt
+        ∙ j.taken (Exactly mark.CloseCurly ∷ st) (λ v. k (stmt.Case a (f.placed at us) (g.placed at ws) n v.0, v.1.1)) xs tt;
     starts = λ ts. refl;
   }
 
@@ -853,89 +853,89 @@ module _ (at : Places) (nowhere : at [] ≡ place_of []) where
   decl_good (decl.Sort p n) = record { taken = λ st k ts ok. refl; starts = λ ts. refl }
   decl_good (decl.Int p n low high) = record {
     taken = λ st k ts ok.
-      let us : List Token = token.DotDot ∷ (num_form high).writes (token.Semicolon ∷ ts) in
-      let a : Place = at (token.Int ∷ token.Name n ∷ (num_form low).writes us) in
-      num_taken low (Exactly mark.DotDot ∷ ANum ∷ Exactly mark.Semicolon ∷ st) (λ v. k (decl.Int a n v.0 v.1.1.0, v.1.1.1.1)) us tt
-      ∙ num_taken high (Exactly mark.Semicolon ∷ st) (λ v. k (decl.Int a n ((num_form low).placed at us) v.0, v.1.1)) (token.Semicolon ∷ ts) tt;
+        let us : List Token = token.DotDot ∷ (num_form high).writes (token.Semicolon ∷ ts) in
+        let a : Place = at (token.Int ∷ token.Name n ∷ (num_form low).writes us) in
+        num_taken low (Exactly mark.DotDot ∷ ANum ∷ Exactly mark.Semicolon ∷ st) (λ v. k (decl.Int a n v.0 v.1.1.0, v.1.1.1.1)) us tt
+        ∙ num_taken high (Exactly mark.Semicolon ∷ st) (λ v. k (decl.Int a n ((num_form low).placed at us) v.0, v.1.1)) (token.Semicolon ∷ ts) tt;
     starts = λ ts. refl;
   }
   decl_good (decl.Enum p n x xs) = record {
     taken = λ st k ts ok.
-      names_taken xs (Exactly mark.CloseCurly ∷ st) (λ v. k (decl.Enum (at (token.Enum ∷ token.Name n ∷ token.OpenCurly ∷ token.Name x ∷ names_after token.Comma xs (token.CloseCurly ∷ ts))) n x v.0, v.1.1)) (token.CloseCurly ∷ ts) refl;
+        names_taken xs (Exactly mark.CloseCurly ∷ st) (λ v. k (decl.Enum (at (token.Enum ∷ token.Name n ∷ token.OpenCurly ∷ token.Name x ∷ names_after token.Comma xs (token.CloseCurly ∷ ts))) n x v.0, v.1.1)) (token.CloseCurly ∷ ts) refl;
     starts = λ ts. refl;
   }
   decl_good (decl.Record p n q qs) = record {
     taken = λ st k ts ok.
-      let us : List Token = (each_after token.Comma (map part_form qs)).writes (token.CloseCurly ∷ ts) in
-      let a : Place = at (token.Record ∷ token.Name n ∷ token.OpenCurly ∷ (part_form q).writes us) in
-      part_taken q (MoreParts ∷ Exactly mark.CloseCurly ∷ st) (λ v. k (decl.Record a n v.0 v.1.0, v.1.1.1)) us tt
-      ∙ more_parts_taken qs (Exactly mark.CloseCurly ∷ st) (λ v. k (decl.Record a n ((part_form q).placed at us) v.0, v.1.1)) (token.CloseCurly ∷ ts) refl;
+        let us : List Token = (each_after token.Comma (map part_form qs)).writes (token.CloseCurly ∷ ts) in
+        let a : Place = at (token.Record ∷ token.Name n ∷ token.OpenCurly ∷ (part_form q).writes us) in
+        part_taken q (MoreParts ∷ Exactly mark.CloseCurly ∷ st) (λ v. k (decl.Record a n v.0 v.1.0, v.1.1.1)) us tt
+        ∙ more_parts_taken qs (Exactly mark.CloseCurly ∷ st) (λ v. k (decl.Record a n ((part_form q).placed at us) v.0, v.1.1)) (token.CloseCurly ∷ ts) refl;
     starts = λ ts. refl;
   }
   decl_good (decl.Cell p n t) = record {
     taken = λ st k ts ok.
-      let us : List Token = token.Semicolon ∷ ts in
-      let all : List Token = (type_form t).writes us in
-      let a : Place = at (token.State ∷ token.Name n ∷ token.Colon ∷ all) in
-      no_key t us (AType ∷ Where ∷ Exactly mark.Semicolon ∷ st) (λ v. k (state_of a n v.0 v.1.0 v.1.1.0, v.1.1.1.1))
-      ∙ type_taken t (Where ∷ Exactly mark.Semicolon ∷ st) (λ v. k (state_of a n None v.0 v.1.0, v.1.1.1)) us tt
-      ∙ skip_where (Exactly mark.Semicolon ∷ st) (λ v. k (state_of a n None ((type_form t).placed at us) v.0, v.1.1)) us refl;
+        let us : List Token = token.Semicolon ∷ ts in
+        let all : List Token = (type_form t).writes us in
+        let a : Place = at (token.State ∷ token.Name n ∷ token.Colon ∷ all) in
+        no_key t us (AType ∷ Where ∷ Exactly mark.Semicolon ∷ st) (λ v. k (state_of a n v.0 v.1.0 v.1.1.0, v.1.1.1.1))
+        ∙ type_taken t (Where ∷ Exactly mark.Semicolon ∷ st) (λ v. k (state_of a n None v.0 v.1.0, v.1.1.1)) us tt
+        ∙ skip_where (Exactly mark.Semicolon ∷ st) (λ v. k (state_of a n None ((type_form t).placed at us) v.0, v.1.1)) us refl;
     starts = λ ts. refl;
   }
   decl_good (decl.CellWhere p n t e) = record {
     taken = λ st k ts ok.
-      let ws : List Token = token.Semicolon ∷ ts in
-      let us : List Token = token.Where ∷ (expr_form e).writes ws in
-      let all : List Token = (type_form t).writes us in
-      let a : Place = at (token.State ∷ token.Name n ∷ token.Colon ∷ all) in
-      no_key t us (AType ∷ Where ∷ Exactly mark.Semicolon ∷ st) (λ v. k (state_of a n v.0 v.1.0 v.1.1.0, v.1.1.1.1))
-      ∙ type_taken t (Where ∷ Exactly mark.Semicolon ∷ st) (λ v. k (state_of a n None v.0 v.1.0, v.1.1.1)) us tt
-      ∙ (expr_good e).taken (Exactly mark.Semicolon ∷ st) (λ v. k (decl.CellWhere a n ((type_form t).placed at us) v.0, v.1.1)) ws (lit< tt);
+        let ws : List Token = token.Semicolon ∷ ts in
+        let us : List Token = token.Where ∷ (expr_form e).writes ws in
+        let all : List Token = (type_form t).writes us in
+        let a : Place = at (token.State ∷ token.Name n ∷ token.Colon ∷ all) in
+        no_key t us (AType ∷ Where ∷ Exactly mark.Semicolon ∷ st) (λ v. k (state_of a n v.0 v.1.0 v.1.1.0, v.1.1.1.1))
+        ∙ type_taken t (Where ∷ Exactly mark.Semicolon ∷ st) (λ v. k (state_of a n None v.0 v.1.0, v.1.1.1)) us tt
+        ∙ (expr_good e).taken (Exactly mark.Semicolon ∷ st) (λ v. k (decl.CellWhere a n ((type_form t).placed at us) v.0, v.1.1)) ws (lit< tt);
     starts = λ ts. refl;
   }
   decl_good (decl.Map p n q t) = record {
     taken = λ st k ts ok.
-      let us : List Token = token.Semicolon ∷ ts in
-      let ws : List Token = token.Arrow ∷ (type_form t).writes us in
-      let a : Place = at (token.State ∷ token.Name n ∷ token.Colon ∷ token.Map ∷ (type_form q).writes ws) in
-      type_taken q (Exactly mark.Arrow ∷ AType ∷ Where ∷ Exactly mark.Semicolon ∷ st) (λ v. k (state_of a n (Some v.0) v.1.1.0 v.1.1.1.0, v.1.1.1.1.1)) ws tt
-      ∙ type_taken t (Where ∷ Exactly mark.Semicolon ∷ st) (λ v. k (state_of a n (Some ((type_form q).placed at ws)) v.0 v.1.0, v.1.1.1)) us tt
-      ∙ skip_where (Exactly mark.Semicolon ∷ st) (λ v. k (state_of a n (Some ((type_form q).placed at ws)) ((type_form t).placed at us) v.0, v.1.1)) us refl;
+        let us : List Token = token.Semicolon ∷ ts in
+        let ws : List Token = token.Arrow ∷ (type_form t).writes us in
+        let a : Place = at (token.State ∷ token.Name n ∷ token.Colon ∷ token.Map ∷ (type_form q).writes ws) in
+        type_taken q (Exactly mark.Arrow ∷ AType ∷ Where ∷ Exactly mark.Semicolon ∷ st) (λ v. k (state_of a n (Some v.0) v.1.1.0 v.1.1.1.0, v.1.1.1.1.1)) ws tt
+        ∙ type_taken t (Where ∷ Exactly mark.Semicolon ∷ st) (λ v. k (state_of a n (Some ((type_form q).placed at ws)) v.0 v.1.0, v.1.1.1)) us tt
+        ∙ skip_where (Exactly mark.Semicolon ∷ st) (λ v. k (state_of a n (Some ((type_form q).placed at ws)) ((type_form t).placed at us) v.0, v.1.1)) us refl;
     starts = λ ts. refl;
   }
   decl_good (decl.MapWhere p n q t e) = record {
     taken = λ st k ts ok.
-      let xs : List Token = token.Semicolon ∷ ts in
-      let us : List Token = token.Where ∷ (expr_form e).writes xs in
-      let ws : List Token = token.Arrow ∷ (type_form t).writes us in
-      let a : Place = at (token.State ∷ token.Name n ∷ token.Colon ∷ token.Map ∷ (type_form q).writes ws) in
-      type_taken q (Exactly mark.Arrow ∷ AType ∷ Where ∷ Exactly mark.Semicolon ∷ st) (λ v. k (state_of a n (Some v.0) v.1.1.0 v.1.1.1.0, v.1.1.1.1.1)) ws tt
-      ∙ type_taken t (Where ∷ Exactly mark.Semicolon ∷ st) (λ v. k (state_of a n (Some ((type_form q).placed at ws)) v.0 v.1.0, v.1.1.1)) us tt
-      ∙ (expr_good e).taken (Exactly mark.Semicolon ∷ st) (λ v. k (decl.MapWhere a n ((type_form q).placed at ws) ((type_form t).placed at us) v.0, v.1.1)) xs (lit< tt);
+        let xs : List Token = token.Semicolon ∷ ts in
+        let us : List Token = token.Where ∷ (expr_form e).writes xs in
+        let ws : List Token = token.Arrow ∷ (type_form t).writes us in
+        let a : Place = at (token.State ∷ token.Name n ∷ token.Colon ∷ token.Map ∷ (type_form q).writes ws) in
+        type_taken q (Exactly mark.Arrow ∷ AType ∷ Where ∷ Exactly mark.Semicolon ∷ st) (λ v. k (state_of a n (Some v.0) v.1.1.0 v.1.1.1.0, v.1.1.1.1.1)) ws tt
+        ∙ type_taken t (Where ∷ Exactly mark.Semicolon ∷ st) (λ v. k (state_of a n (Some ((type_form q).placed at ws)) v.0 v.1.0, v.1.1.1)) us tt
+        ∙ (expr_good e).taken (Exactly mark.Semicolon ∷ st) (λ v. k (decl.MapWhere a n ((type_form q).placed at ws) ((type_form t).placed at us) v.0, v.1.1)) xs (lit< tt);
     starts = λ ts. refl;
   }
   decl_good (decl.Function p n ps t b) = record {
     taken = λ st k ts ok.
-      let ws : List Token = (block_form b).writes ts in
-      let us : List Token = token.CloseRound ∷ token.Arrow ∷ (type_form t).writes ws in
-      let a : Place = at (token.Fn ∷ token.Name n ∷ token.OpenRound ∷ (listed (map part_form ps)).writes us) in
-      params_taken ps (Exactly mark.CloseRound ∷ Exactly mark.Arrow ∷ AType ∷ ABlock ∷ st) (λ v. k (decl.Function a n v.0 v.1.1.1.0 v.1.1.1.1.0, v.1.1.1.1.1)) us refl refl
-      ∙ type_taken t (ABlock ∷ st) (λ v. k (decl.Function a n ((listed (map part_form ps)).placed at us) v.0 v.1.0, v.1.1)) ws tt
-      ∙ (block_all b).taken st (λ v. k (decl.Function a n ((listed (map part_form ps)).placed at us) ((type_form t).placed at ws) v.0, v.1)) ts tt;
+        let ws : List Token = (block_form b).writes ts in
+        let us : List Token = token.CloseRound ∷ token.Arrow ∷ (type_form t).writes ws in
+        let a : Place = at (token.Fn ∷ token.Name n ∷ token.OpenRound ∷ (listed (map part_form ps)).writes us) in
+        params_taken ps (Exactly mark.CloseRound ∷ Exactly mark.Arrow ∷ AType ∷ ABlock ∷ st) (λ v. k (decl.Function a n v.0 v.1.1.1.0 v.1.1.1.1.0, v.1.1.1.1.1)) us refl refl
+        ∙ type_taken t (ABlock ∷ st) (λ v. k (decl.Function a n ((listed (map part_form ps)).placed at us) v.0 v.1.0, v.1.1)) ws tt
+        ∙ (block_all b).taken st (λ v. k (decl.Function a n ((listed (map part_form ps)).placed at us) ((type_form t).placed at ws) v.0, v.1)) ts tt;
     starts = λ ts. refl;
   }
   decl_good (decl.Call p n ps qs t b) = record {
     taken = λ st k ts ok.
-      let ws : List Token = (block_form b).writes ts in
-      let us : List Token = token.Arrow ∷ (type_form t).writes ws in
-      let xs : List Token = (internal_form qs).writes (token.CloseRound ∷ us) in
-      let a : Place = at (token.Call ∷ token.Name n ∷ token.OpenRound ∷ (listed (map part_form ps)).writes xs) in
-      let f : List Part = (listed (map part_form ps)).placed at xs in
-      let g : List Part = (internal_form qs).placed at (token.CloseRound ∷ us) in
-      params_taken ps (Internals ∷ Exactly mark.CloseRound ∷ Exactly mark.Arrow ∷ AType ∷ ABlock ∷ st) (λ v. k (decl.Call a n v.0 v.1.0 v.1.1.1.1.0 v.1.1.1.1.1.0, v.1.1.1.1.1.1)) xs (internal_no_comma qs us) (internal_no_name qs us)
-      ∙ internals_taken qs (Exactly mark.CloseRound ∷ Exactly mark.Arrow ∷ AType ∷ ABlock ∷ st) (λ v. k (decl.Call a n f v.0 v.1.1.1.0 v.1.1.1.1.0, v.1.1.1.1.1)) us
-      ∙ type_taken t (ABlock ∷ st) (λ v. k (decl.Call a n f g v.0 v.1.0, v.1.1)) ws tt
-      ∙ (block_all b).taken st (λ v. k (decl.Call a n f g ((type_form t).placed at ws) v.0, v.1)) ts tt;
+        let ws : List Token = (block_form b).writes ts in
+        let us : List Token = token.Arrow ∷ (type_form t).writes ws in
+        let xs : List Token = (internal_form qs).writes (token.CloseRound ∷ us) in
+        let a : Place = at (token.Call ∷ token.Name n ∷ token.OpenRound ∷ (listed (map part_form ps)).writes xs) in
+        let f : List Part = (listed (map part_form ps)).placed at xs in
+        let g : List Part = (internal_form qs).placed at (token.CloseRound ∷ us) in
+        params_taken ps (Internals ∷ Exactly mark.CloseRound ∷ Exactly mark.Arrow ∷ AType ∷ ABlock ∷ st) (λ v. k (decl.Call a n v.0 v.1.0 v.1.1.1.1.0 v.1.1.1.1.1.0, v.1.1.1.1.1.1)) xs (internal_no_comma qs us) (internal_no_name qs us)
+        ∙ internals_taken qs (Exactly mark.CloseRound ∷ Exactly mark.Arrow ∷ AType ∷ ABlock ∷ st) (λ v. k (decl.Call a n f v.0 v.1.1.1.0 v.1.1.1.1.0, v.1.1.1.1.1)) us
+        ∙ type_taken t (ABlock ∷ st) (λ v. k (decl.Call a n f g v.0 v.1.0, v.1.1)) ws tt
+        ∙ (block_all b).taken st (λ v. k (decl.Call a n f g ((type_form t).placed at ws) v.0, v.1)) ts tt;
     starts = λ ts. refl;
   }
 
@@ -959,4 +959,3 @@ module _ (at : Places) (nowhere : at [] ≡ place_of []) where
       ∙ (decl_good t.first).taken (Decls ∷ []) (λ v. tree_of a v.0 v.1.0) us tt
       ∙ decls_taken t.more [] (λ v. tree_of a ((decl_form t.first).placed at us) v.0) []
       ∙ ap (λ x. Ok (tree_of x ((decl_form t.first).placed at us) ((each (map decl_form t.more)).placed at (token.End ∷ [])))) (first_place all)
-

@@ -56,8 +56,11 @@ gives_number b0 b1 p x0 q w g0 = λ st k.
     ∙ g0 (st) (λ v. k (prim.Number p v.0, v.1))
 
 pub stops_number_0 : (b0 : Ahead) (p : Place) (e : SyntaxFault) → place_of b0.left ≡ p → starts_num (head b0.left) ≡ true → Stops ANum b0 e → Stops APrim b0 e
-stops_number_0 b0 p e q w z = stops_by APrim ANum b0 b0 e (λ st k. ((st), (λ v. k (prim.Number p v.0, v.1)),
-    open_number b0 p st k q w)) z
+stops_number_0 b0 p e q w z = stops_by APrim ANum b0 b0 e (λ st k. (
+  (st),
+  (λ v. k (prim.Number p v.0, v.1)),
+  open_number b0 p st k q w,
+)) z
 
 pub ruleset steps_number = (gives_number, stops_number_0, memory, reads_ok, reads_err)
 
@@ -106,14 +109,20 @@ gives_name b0 b1 b2 p x0 x1 q w g0 g1 = λ st k.
     ∙ g1 (st) (λ v. k (after_name p x0 v.0, v.1))
 
 pub stops_name_0 : (b0 : Ahead) (p : Place) (e : SyntaxFault) → place_of b0.left ≡ p → starts_name (head b0.left) ≡ true → Stops AName b0 e → Stops APrim b0 e
-stops_name_0 b0 p e q w z = stops_by APrim AName b0 b0 e (λ st k. ((BehindName ∷ st), (λ v. k (after_name p v.0 v.1.0, v.1.1)),
-    open_name b0 p st k q w)) z
+stops_name_0 b0 p e q w z = stops_by APrim AName b0 b0 e (λ st k. (
+  (BehindName ∷ st),
+  (λ v. k (after_name p v.0 v.1.0, v.1.1)),
+  open_name b0 p st k q w,
+)) z
 
 pub stops_name_1 : (b0 b1 : Ahead) (p : Place) (x0 : List ℕ) (e : SyntaxFault) → place_of b0.left ≡ p → starts_name (head b0.left) ≡ true → Gives AName b0 x0 b1 → Stops BehindName b1 e → Stops APrim b0 e
 unfolding Gives
-stops_name_1 b0 b1 p x0 e q w g0 z = stops_by APrim BehindName b0 b1 e (λ st k. ((st), (λ v. k (after_name p x0 v.0, v.1)),
-    open_name b0 p st k q w
-    ∙ g0 (BehindName ∷ st) (λ v. k (after_name p v.0 v.1.0, v.1.1)))) z
+stops_name_1 b0 b1 p x0 e q w g0 z = stops_by APrim BehindName b0 b1 e (λ st k. (
+  (st),
+  (λ v. k (after_name p x0 v.0, v.1)),
+  open_name b0 p st k q w
+      ∙ g0 (BehindName ∷ st) (λ v. k (after_name p v.0 v.1.0, v.1.1)),
+)) z
 
 pub ruleset steps_name = (gives_name, stops_name_0, stops_name_1, memory, reads_ok, reads_err)
 
@@ -129,21 +138,30 @@ pub halts_none : (a : Ahead) (e : SyntaxFault) → head a.left ≡ Some token.No
 halts_none a e h q = halts_at APrim token.Nothing a e h q (λ p st. ((Exactly mark.OpenRound ∷ AType ∷ Exactly mark.CloseRound ∷ st), (λ v. (prim.NoneOf p v.1.0, v.1.1.1)), refl))
 
 pub stops_none_0 : (a b0 : Ahead) (p : Place) (e : SyntaxFault) → head a.left ≡ Some token.Nothing → Passes a p b0 → Stops (Exactly mark.OpenRound) b0 e → Stops APrim a e
-stops_none_0 a b0 p e h q z = stops_by APrim (Exactly mark.OpenRound) a b0 e (λ st k. ((AType ∷ Exactly mark.CloseRound ∷ st), (λ v. k (prim.NoneOf p v.1.0, v.1.1.1)),
-    passes_to APrim token.Nothing a b0 p st (Exactly mark.OpenRound ∷ AType ∷ Exactly mark.CloseRound ∷ st) (λ v. (prim.NoneOf p v.1.0, v.1.1.1)) h q refl k)) z
+stops_none_0 a b0 p e h q z = stops_by APrim (Exactly mark.OpenRound) a b0 e (λ st k. (
+  (AType ∷ Exactly mark.CloseRound ∷ st),
+  (λ v. k (prim.NoneOf p v.1.0, v.1.1.1)),
+  passes_to APrim token.Nothing a b0 p st (Exactly mark.OpenRound ∷ AType ∷ Exactly mark.CloseRound ∷ st) (λ v. (prim.NoneOf p v.1.0, v.1.1.1)) h q refl k,
+)) z
 
 pub stops_none_1 : (a b0 b1 : Ahead) (p : Place) (e : SyntaxFault) → head a.left ≡ Some token.Nothing → Passes a p b0 → Gives (Exactly mark.OpenRound) b0 tt b1 → Stops AType b1 e → Stops APrim a e
 unfolding Gives
-stops_none_1 a b0 b1 p e h q g0 z = stops_by APrim AType a b1 e (λ st k. ((Exactly mark.CloseRound ∷ st), (λ v. k (prim.NoneOf p v.0, v.1.1)),
-    passes_to APrim token.Nothing a b0 p st (Exactly mark.OpenRound ∷ AType ∷ Exactly mark.CloseRound ∷ st) (λ v. (prim.NoneOf p v.1.0, v.1.1.1)) h q refl k
-    ∙ g0 (AType ∷ Exactly mark.CloseRound ∷ st) (λ v. k (prim.NoneOf p v.1.0, v.1.1.1)))) z
+stops_none_1 a b0 b1 p e h q g0 z = stops_by APrim AType a b1 e (λ st k. (
+  (Exactly mark.CloseRound ∷ st),
+  (λ v. k (prim.NoneOf p v.0, v.1.1)),
+  passes_to APrim token.Nothing a b0 p st (Exactly mark.OpenRound ∷ AType ∷ Exactly mark.CloseRound ∷ st) (λ v. (prim.NoneOf p v.1.0, v.1.1.1)) h q refl k
+      ∙ g0 (AType ∷ Exactly mark.CloseRound ∷ st) (λ v. k (prim.NoneOf p v.1.0, v.1.1.1)),
+)) z
 
 pub stops_none_2 : (a b0 b1 b2 : Ahead) (p : Place) (x1 : TypeTree) (e : SyntaxFault) → head a.left ≡ Some token.Nothing → Passes a p b0 → Gives (Exactly mark.OpenRound) b0 tt b1 → Gives AType b1 x1 b2 → Stops (Exactly mark.CloseRound) b2 e → Stops APrim a e
 unfolding Gives
-stops_none_2 a b0 b1 b2 p x1 e h q g0 g1 z = stops_by APrim (Exactly mark.CloseRound) a b2 e (λ st k. ((st), (λ v. k (prim.NoneOf p x1, v.1)),
-    passes_to APrim token.Nothing a b0 p st (Exactly mark.OpenRound ∷ AType ∷ Exactly mark.CloseRound ∷ st) (λ v. (prim.NoneOf p v.1.0, v.1.1.1)) h q refl k
-    ∙ g0 (AType ∷ Exactly mark.CloseRound ∷ st) (λ v. k (prim.NoneOf p v.1.0, v.1.1.1))
-    ∙ g1 (Exactly mark.CloseRound ∷ st) (λ v. k (prim.NoneOf p v.0, v.1.1)))) z
+stops_none_2 a b0 b1 b2 p x1 e h q g0 g1 z = stops_by APrim (Exactly mark.CloseRound) a b2 e (λ st k. (
+  (st),
+  (λ v. k (prim.NoneOf p x1, v.1)),
+  passes_to APrim token.Nothing a b0 p st (Exactly mark.OpenRound ∷ AType ∷ Exactly mark.CloseRound ∷ st) (λ v. (prim.NoneOf p v.1.0, v.1.1.1)) h q refl k
+      ∙ g0 (AType ∷ Exactly mark.CloseRound ∷ st) (λ v. k (prim.NoneOf p v.1.0, v.1.1.1))
+      ∙ g1 (Exactly mark.CloseRound ∷ st) (λ v. k (prim.NoneOf p v.0, v.1.1)),
+)) z
 
 pub ruleset steps_none = (gives_none, halts_none, stops_none_0, stops_none_1, stops_none_2, memory, reads_ok, reads_err)
 
@@ -159,21 +177,30 @@ pub halts_some : (a : Ahead) (e : SyntaxFault) → head a.left ≡ Some token.So
 halts_some a e h q = halts_at APrim token.Something a e h q (λ p st. ((Exactly mark.OpenRound ∷ AnExpr ∷ Exactly mark.CloseRound ∷ st), (λ v. (prim.SomeOf p v.1.0, v.1.1.1)), refl))
 
 pub stops_some_0 : (a b0 : Ahead) (p : Place) (e : SyntaxFault) → head a.left ≡ Some token.Something → Passes a p b0 → Stops (Exactly mark.OpenRound) b0 e → Stops APrim a e
-stops_some_0 a b0 p e h q z = stops_by APrim (Exactly mark.OpenRound) a b0 e (λ st k. ((AnExpr ∷ Exactly mark.CloseRound ∷ st), (λ v. k (prim.SomeOf p v.1.0, v.1.1.1)),
-    passes_to APrim token.Something a b0 p st (Exactly mark.OpenRound ∷ AnExpr ∷ Exactly mark.CloseRound ∷ st) (λ v. (prim.SomeOf p v.1.0, v.1.1.1)) h q refl k)) z
+stops_some_0 a b0 p e h q z = stops_by APrim (Exactly mark.OpenRound) a b0 e (λ st k. (
+  (AnExpr ∷ Exactly mark.CloseRound ∷ st),
+  (λ v. k (prim.SomeOf p v.1.0, v.1.1.1)),
+  passes_to APrim token.Something a b0 p st (Exactly mark.OpenRound ∷ AnExpr ∷ Exactly mark.CloseRound ∷ st) (λ v. (prim.SomeOf p v.1.0, v.1.1.1)) h q refl k,
+)) z
 
 pub stops_some_1 : (a b0 b1 : Ahead) (p : Place) (e : SyntaxFault) → head a.left ≡ Some token.Something → Passes a p b0 → Gives (Exactly mark.OpenRound) b0 tt b1 → Stops AnExpr b1 e → Stops APrim a e
 unfolding Gives
-stops_some_1 a b0 b1 p e h q g0 z = stops_by APrim AnExpr a b1 e (λ st k. ((Exactly mark.CloseRound ∷ st), (λ v. k (prim.SomeOf p v.0, v.1.1)),
-    passes_to APrim token.Something a b0 p st (Exactly mark.OpenRound ∷ AnExpr ∷ Exactly mark.CloseRound ∷ st) (λ v. (prim.SomeOf p v.1.0, v.1.1.1)) h q refl k
-    ∙ g0 (AnExpr ∷ Exactly mark.CloseRound ∷ st) (λ v. k (prim.SomeOf p v.1.0, v.1.1.1)))) z
+stops_some_1 a b0 b1 p e h q g0 z = stops_by APrim AnExpr a b1 e (λ st k. (
+  (Exactly mark.CloseRound ∷ st),
+  (λ v. k (prim.SomeOf p v.0, v.1.1)),
+  passes_to APrim token.Something a b0 p st (Exactly mark.OpenRound ∷ AnExpr ∷ Exactly mark.CloseRound ∷ st) (λ v. (prim.SomeOf p v.1.0, v.1.1.1)) h q refl k
+      ∙ g0 (AnExpr ∷ Exactly mark.CloseRound ∷ st) (λ v. k (prim.SomeOf p v.1.0, v.1.1.1)),
+)) z
 
 pub stops_some_2 : (a b0 b1 b2 : Ahead) (p : Place) (x1 : Expr) (e : SyntaxFault) → head a.left ≡ Some token.Something → Passes a p b0 → Gives (Exactly mark.OpenRound) b0 tt b1 → Gives AnExpr b1 x1 b2 → Stops (Exactly mark.CloseRound) b2 e → Stops APrim a e
 unfolding Gives
-stops_some_2 a b0 b1 b2 p x1 e h q g0 g1 z = stops_by APrim (Exactly mark.CloseRound) a b2 e (λ st k. ((st), (λ v. k (prim.SomeOf p x1, v.1)),
-    passes_to APrim token.Something a b0 p st (Exactly mark.OpenRound ∷ AnExpr ∷ Exactly mark.CloseRound ∷ st) (λ v. (prim.SomeOf p v.1.0, v.1.1.1)) h q refl k
-    ∙ g0 (AnExpr ∷ Exactly mark.CloseRound ∷ st) (λ v. k (prim.SomeOf p v.1.0, v.1.1.1))
-    ∙ g1 (Exactly mark.CloseRound ∷ st) (λ v. k (prim.SomeOf p v.0, v.1.1)))) z
+stops_some_2 a b0 b1 b2 p x1 e h q g0 g1 z = stops_by APrim (Exactly mark.CloseRound) a b2 e (λ st k. (
+  (st),
+  (λ v. k (prim.SomeOf p x1, v.1)),
+  passes_to APrim token.Something a b0 p st (Exactly mark.OpenRound ∷ AnExpr ∷ Exactly mark.CloseRound ∷ st) (λ v. (prim.SomeOf p v.1.0, v.1.1.1)) h q refl k
+      ∙ g0 (AnExpr ∷ Exactly mark.CloseRound ∷ st) (λ v. k (prim.SomeOf p v.1.0, v.1.1.1))
+      ∙ g1 (Exactly mark.CloseRound ∷ st) (λ v. k (prim.SomeOf p v.0, v.1.1)),
+)) z
 
 pub ruleset steps_some = (gives_some, halts_some, stops_some_0, stops_some_1, stops_some_2, memory, reads_ok, reads_err)
 
@@ -188,14 +215,20 @@ pub halts_group : (a : Ahead) (e : SyntaxFault) → head a.left ≡ Some token.O
 halts_group a e h q = halts_at APrim token.OpenRound a e h q (λ p st. ((AnExpr ∷ Exactly mark.CloseRound ∷ st), (λ v. (prim.Group p v.0, v.1.1)), refl))
 
 pub stops_group_0 : (a b0 : Ahead) (p : Place) (e : SyntaxFault) → head a.left ≡ Some token.OpenRound → Passes a p b0 → Stops AnExpr b0 e → Stops APrim a e
-stops_group_0 a b0 p e h q z = stops_by APrim AnExpr a b0 e (λ st k. ((Exactly mark.CloseRound ∷ st), (λ v. k (prim.Group p v.0, v.1.1)),
-    passes_to APrim token.OpenRound a b0 p st (AnExpr ∷ Exactly mark.CloseRound ∷ st) (λ v. (prim.Group p v.0, v.1.1)) h q refl k)) z
+stops_group_0 a b0 p e h q z = stops_by APrim AnExpr a b0 e (λ st k. (
+  (Exactly mark.CloseRound ∷ st),
+  (λ v. k (prim.Group p v.0, v.1.1)),
+  passes_to APrim token.OpenRound a b0 p st (AnExpr ∷ Exactly mark.CloseRound ∷ st) (λ v. (prim.Group p v.0, v.1.1)) h q refl k,
+)) z
 
 pub stops_group_1 : (a b0 b1 : Ahead) (p : Place) (x0 : Expr) (e : SyntaxFault) → head a.left ≡ Some token.OpenRound → Passes a p b0 → Gives AnExpr b0 x0 b1 → Stops (Exactly mark.CloseRound) b1 e → Stops APrim a e
 unfolding Gives
-stops_group_1 a b0 b1 p x0 e h q g0 z = stops_by APrim (Exactly mark.CloseRound) a b1 e (λ st k. ((st), (λ v. k (prim.Group p x0, v.1)),
-    passes_to APrim token.OpenRound a b0 p st (AnExpr ∷ Exactly mark.CloseRound ∷ st) (λ v. (prim.Group p v.0, v.1.1)) h q refl k
-    ∙ g0 (Exactly mark.CloseRound ∷ st) (λ v. k (prim.Group p v.0, v.1.1)))) z
+stops_group_1 a b0 b1 p x0 e h q g0 z = stops_by APrim (Exactly mark.CloseRound) a b1 e (λ st k. (
+  (st),
+  (λ v. k (prim.Group p x0, v.1)),
+  passes_to APrim token.OpenRound a b0 p st (AnExpr ∷ Exactly mark.CloseRound ∷ st) (λ v. (prim.Group p v.0, v.1.1)) h q refl k
+      ∙ g0 (Exactly mark.CloseRound ∷ st) (λ v. k (prim.Group p v.0, v.1.1)),
+)) z
 
 pub ruleset steps_group = (gives_group, halts_group, stops_group_0, stops_group_1, memory, reads_ok, reads_err)
 
@@ -210,14 +243,20 @@ pub halts_key : (a : Ahead) (e : SyntaxFault) → head a.left ≡ Some token.Ope
 halts_key a e h q = halts_at BehindName token.OpenSquare a e h q (λ p st. ((AnExpr ∷ Exactly mark.CloseSquare ∷ st), (λ v. (after.Key v.0, v.1.1)), refl))
 
 pub stops_key_0 : (a b0 : Ahead) (p : Place) (e : SyntaxFault) → head a.left ≡ Some token.OpenSquare → Passes a p b0 → Stops AnExpr b0 e → Stops BehindName a e
-stops_key_0 a b0 p e h q z = stops_by BehindName AnExpr a b0 e (λ st k. ((Exactly mark.CloseSquare ∷ st), (λ v. k (after.Key v.0, v.1.1)),
-    passes_to BehindName token.OpenSquare a b0 p st (AnExpr ∷ Exactly mark.CloseSquare ∷ st) (λ v. (after.Key v.0, v.1.1)) h q refl k)) z
+stops_key_0 a b0 p e h q z = stops_by BehindName AnExpr a b0 e (λ st k. (
+  (Exactly mark.CloseSquare ∷ st),
+  (λ v. k (after.Key v.0, v.1.1)),
+  passes_to BehindName token.OpenSquare a b0 p st (AnExpr ∷ Exactly mark.CloseSquare ∷ st) (λ v. (after.Key v.0, v.1.1)) h q refl k,
+)) z
 
 pub stops_key_1 : (a b0 b1 : Ahead) (p : Place) (x0 : Expr) (e : SyntaxFault) → head a.left ≡ Some token.OpenSquare → Passes a p b0 → Gives AnExpr b0 x0 b1 → Stops (Exactly mark.CloseSquare) b1 e → Stops BehindName a e
 unfolding Gives
-stops_key_1 a b0 b1 p x0 e h q g0 z = stops_by BehindName (Exactly mark.CloseSquare) a b1 e (λ st k. ((st), (λ v. k (after.Key x0, v.1)),
-    passes_to BehindName token.OpenSquare a b0 p st (AnExpr ∷ Exactly mark.CloseSquare ∷ st) (λ v. (after.Key v.0, v.1.1)) h q refl k
-    ∙ g0 (Exactly mark.CloseSquare ∷ st) (λ v. k (after.Key v.0, v.1.1)))) z
+stops_key_1 a b0 b1 p x0 e h q g0 z = stops_by BehindName (Exactly mark.CloseSquare) a b1 e (λ st k. (
+  (st),
+  (λ v. k (after.Key x0, v.1)),
+  passes_to BehindName token.OpenSquare a b0 p st (AnExpr ∷ Exactly mark.CloseSquare ∷ st) (λ v. (after.Key v.0, v.1.1)) h q refl k
+      ∙ g0 (Exactly mark.CloseSquare ∷ st) (λ v. k (after.Key v.0, v.1.1)),
+)) z
 
 pub ruleset steps_key = (gives_key, halts_key, stops_key_0, stops_key_1, memory, reads_ok, reads_err)
 
@@ -231,8 +270,11 @@ pub halts_arguments : (a : Ahead) (e : SyntaxFault) → head a.left ≡ Some tok
 halts_arguments a e h q = halts_at BehindName token.OpenRound a e h q (λ p st. ((Args ∷ st), (λ v. (after.Args v.0, v.1)), refl))
 
 pub stops_arguments_0 : (a b0 : Ahead) (p : Place) (e : SyntaxFault) → head a.left ≡ Some token.OpenRound → Passes a p b0 → Stops Args b0 e → Stops BehindName a e
-stops_arguments_0 a b0 p e h q z = stops_by BehindName Args a b0 e (λ st k. ((st), (λ v. k (after.Args v.0, v.1)),
-    passes_to BehindName token.OpenRound a b0 p st (Args ∷ st) (λ v. (after.Args v.0, v.1)) h q refl k)) z
+stops_arguments_0 a b0 p e h q z = stops_by BehindName Args a b0 e (λ st k. (
+  (st),
+  (λ v. k (after.Args v.0, v.1)),
+  passes_to BehindName token.OpenRound a b0 p st (Args ∷ st) (λ v. (after.Args v.0, v.1)) h q refl k,
+)) z
 
 pub ruleset steps_arguments = (gives_arguments, halts_arguments, stops_arguments_0, memory, reads_ok, reads_err)
 
@@ -262,21 +304,30 @@ gives_some_args b0 b1 b2 b3 x0 x1 w g0 g1 g2 = λ st k.
     ∙ g2 (st) (λ v. k (x0 ∷ x1, v.1))
 
 pub stops_some_args_0 : (b0 : Ahead) (e : SyntaxFault) → no_close_round (head b0.left) ≡ true → Stops AnExpr b0 e → Stops Args b0 e
-stops_some_args_0 b0 e w z = stops_by Args AnExpr b0 b0 e (λ st k. ((MoreArgs ∷ Exactly mark.CloseRound ∷ st), (λ v. k (v.0 ∷ v.1.0, v.1.1.1)),
-    open_some_args b0 st k w)) z
+stops_some_args_0 b0 e w z = stops_by Args AnExpr b0 b0 e (λ st k. (
+  (MoreArgs ∷ Exactly mark.CloseRound ∷ st),
+  (λ v. k (v.0 ∷ v.1.0, v.1.1.1)),
+  open_some_args b0 st k w,
+)) z
 
 pub stops_some_args_1 : (b0 b1 : Ahead) (x0 : Expr) (e : SyntaxFault) → no_close_round (head b0.left) ≡ true → Gives AnExpr b0 x0 b1 → Stops MoreArgs b1 e → Stops Args b0 e
 unfolding Gives
-stops_some_args_1 b0 b1 x0 e w g0 z = stops_by Args MoreArgs b0 b1 e (λ st k. ((Exactly mark.CloseRound ∷ st), (λ v. k (x0 ∷ v.0, v.1.1)),
-    open_some_args b0 st k w
-    ∙ g0 (MoreArgs ∷ Exactly mark.CloseRound ∷ st) (λ v. k (v.0 ∷ v.1.0, v.1.1.1)))) z
+stops_some_args_1 b0 b1 x0 e w g0 z = stops_by Args MoreArgs b0 b1 e (λ st k. (
+  (Exactly mark.CloseRound ∷ st),
+  (λ v. k (x0 ∷ v.0, v.1.1)),
+  open_some_args b0 st k w
+      ∙ g0 (MoreArgs ∷ Exactly mark.CloseRound ∷ st) (λ v. k (v.0 ∷ v.1.0, v.1.1.1)),
+)) z
 
 pub stops_some_args_2 : (b0 b1 b2 : Ahead) (x0 : Expr) (x1 : List Expr) (e : SyntaxFault) → no_close_round (head b0.left) ≡ true → Gives AnExpr b0 x0 b1 → Gives MoreArgs b1 x1 b2 → Stops (Exactly mark.CloseRound) b2 e → Stops Args b0 e
 unfolding Gives
-stops_some_args_2 b0 b1 b2 x0 x1 e w g0 g1 z = stops_by Args (Exactly mark.CloseRound) b0 b2 e (λ st k. ((st), (λ v. k (x0 ∷ x1, v.1)),
-    open_some_args b0 st k w
-    ∙ g0 (MoreArgs ∷ Exactly mark.CloseRound ∷ st) (λ v. k (v.0 ∷ v.1.0, v.1.1.1))
-    ∙ g1 (Exactly mark.CloseRound ∷ st) (λ v. k (x0 ∷ v.0, v.1.1)))) z
+stops_some_args_2 b0 b1 b2 x0 x1 e w g0 g1 z = stops_by Args (Exactly mark.CloseRound) b0 b2 e (λ st k. (
+  (st),
+  (λ v. k (x0 ∷ x1, v.1)),
+  open_some_args b0 st k w
+      ∙ g0 (MoreArgs ∷ Exactly mark.CloseRound ∷ st) (λ v. k (v.0 ∷ v.1.0, v.1.1.1))
+      ∙ g1 (Exactly mark.CloseRound ∷ st) (λ v. k (x0 ∷ v.0, v.1.1)),
+)) z
 
 pub ruleset steps_some_args = (gives_some_args, stops_some_args_0, stops_some_args_1, stops_some_args_2, memory, reads_ok, reads_err)
 
@@ -292,21 +343,30 @@ gives_set b0 b1 b2 b3 p x0 x2 q g0 g1 g2 = λ st k.
     ∙ g2 (st) (λ v. k (set_of p x0 v.0, v.1))
 
 pub stops_set_0 : (b0 : Ahead) (p : Place) (e : SyntaxFault) → place_of b0.left ≡ p → Stops AName b0 e → Stops ASet b0 e
-stops_set_0 b0 p e q z = stops_by ASet AName b0 b0 e (λ st k. ((Exactly mark.Colon ∷ AnExpr ∷ st), (λ v. k (set_of p v.0 v.1.1.0, v.1.1.1)),
-    open_set b0 p st k q)) z
+stops_set_0 b0 p e q z = stops_by ASet AName b0 b0 e (λ st k. (
+  (Exactly mark.Colon ∷ AnExpr ∷ st),
+  (λ v. k (set_of p v.0 v.1.1.0, v.1.1.1)),
+  open_set b0 p st k q,
+)) z
 
 pub stops_set_1 : (b0 b1 : Ahead) (p : Place) (x0 : List ℕ) (e : SyntaxFault) → place_of b0.left ≡ p → Gives AName b0 x0 b1 → Stops (Exactly mark.Colon) b1 e → Stops ASet b0 e
 unfolding Gives
-stops_set_1 b0 b1 p x0 e q g0 z = stops_by ASet (Exactly mark.Colon) b0 b1 e (λ st k. ((AnExpr ∷ st), (λ v. k (set_of p x0 v.1.0, v.1.1)),
-    open_set b0 p st k q
-    ∙ g0 (Exactly mark.Colon ∷ AnExpr ∷ st) (λ v. k (set_of p v.0 v.1.1.0, v.1.1.1)))) z
+stops_set_1 b0 b1 p x0 e q g0 z = stops_by ASet (Exactly mark.Colon) b0 b1 e (λ st k. (
+  (AnExpr ∷ st),
+  (λ v. k (set_of p x0 v.1.0, v.1.1)),
+  open_set b0 p st k q
+      ∙ g0 (Exactly mark.Colon ∷ AnExpr ∷ st) (λ v. k (set_of p v.0 v.1.1.0, v.1.1.1)),
+)) z
 
 pub stops_set_2 : (b0 b1 b2 : Ahead) (p : Place) (x0 : List ℕ) (e : SyntaxFault) → place_of b0.left ≡ p → Gives AName b0 x0 b1 → Gives (Exactly mark.Colon) b1 tt b2 → Stops AnExpr b2 e → Stops ASet b0 e
 unfolding Gives
-stops_set_2 b0 b1 b2 p x0 e q g0 g1 z = stops_by ASet AnExpr b0 b2 e (λ st k. ((st), (λ v. k (set_of p x0 v.0, v.1)),
-    open_set b0 p st k q
-    ∙ g0 (Exactly mark.Colon ∷ AnExpr ∷ st) (λ v. k (set_of p v.0 v.1.1.0, v.1.1.1))
-    ∙ g1 (AnExpr ∷ st) (λ v. k (set_of p x0 v.1.0, v.1.1)))) z
+stops_set_2 b0 b1 b2 p x0 e q g0 g1 z = stops_by ASet AnExpr b0 b2 e (λ st k. (
+  (st),
+  (λ v. k (set_of p x0 v.0, v.1)),
+  open_set b0 p st k q
+      ∙ g0 (Exactly mark.Colon ∷ AnExpr ∷ st) (λ v. k (set_of p v.0 v.1.1.0, v.1.1.1))
+      ∙ g1 (AnExpr ∷ st) (λ v. k (set_of p x0 v.1.0, v.1.1)),
+)) z
 
 pub ruleset steps_set = (gives_set, stops_set_0, stops_set_1, stops_set_2, memory, reads_ok, reads_err)
 
@@ -323,29 +383,41 @@ pub halts_with : (a : Ahead) (e : SyntaxFault) → head a.left ≡ Some token.Wi
 halts_with a e h q = halts_at With token.With a e h q (λ p st. ((Exactly mark.OpenCurly ∷ ASet ∷ MoreSets ∷ Exactly mark.CloseCurly ∷ st), (λ v. (v.1.0 ∷ v.1.1.0, v.1.1.1.1)), refl))
 
 pub stops_with_0 : (a b0 : Ahead) (p : Place) (e : SyntaxFault) → head a.left ≡ Some token.With → Passes a p b0 → Stops (Exactly mark.OpenCurly) b0 e → Stops With a e
-stops_with_0 a b0 p e h q z = stops_by With (Exactly mark.OpenCurly) a b0 e (λ st k. ((ASet ∷ MoreSets ∷ Exactly mark.CloseCurly ∷ st), (λ v. k (v.1.0 ∷ v.1.1.0, v.1.1.1.1)),
-    passes_to With token.With a b0 p st (Exactly mark.OpenCurly ∷ ASet ∷ MoreSets ∷ Exactly mark.CloseCurly ∷ st) (λ v. (v.1.0 ∷ v.1.1.0, v.1.1.1.1)) h q refl k)) z
+stops_with_0 a b0 p e h q z = stops_by With (Exactly mark.OpenCurly) a b0 e (λ st k. (
+  (ASet ∷ MoreSets ∷ Exactly mark.CloseCurly ∷ st),
+  (λ v. k (v.1.0 ∷ v.1.1.0, v.1.1.1.1)),
+  passes_to With token.With a b0 p st (Exactly mark.OpenCurly ∷ ASet ∷ MoreSets ∷ Exactly mark.CloseCurly ∷ st) (λ v. (v.1.0 ∷ v.1.1.0, v.1.1.1.1)) h q refl k,
+)) z
 
 pub stops_with_1 : (a b0 b1 : Ahead) (p : Place) (e : SyntaxFault) → head a.left ≡ Some token.With → Passes a p b0 → Gives (Exactly mark.OpenCurly) b0 tt b1 → Stops ASet b1 e → Stops With a e
 unfolding Gives
-stops_with_1 a b0 b1 p e h q g0 z = stops_by With ASet a b1 e (λ st k. ((MoreSets ∷ Exactly mark.CloseCurly ∷ st), (λ v. k (v.0 ∷ v.1.0, v.1.1.1)),
-    passes_to With token.With a b0 p st (Exactly mark.OpenCurly ∷ ASet ∷ MoreSets ∷ Exactly mark.CloseCurly ∷ st) (λ v. (v.1.0 ∷ v.1.1.0, v.1.1.1.1)) h q refl k
-    ∙ g0 (ASet ∷ MoreSets ∷ Exactly mark.CloseCurly ∷ st) (λ v. k (v.1.0 ∷ v.1.1.0, v.1.1.1.1)))) z
+stops_with_1 a b0 b1 p e h q g0 z = stops_by With ASet a b1 e (λ st k. (
+  (MoreSets ∷ Exactly mark.CloseCurly ∷ st),
+  (λ v. k (v.0 ∷ v.1.0, v.1.1.1)),
+  passes_to With token.With a b0 p st (Exactly mark.OpenCurly ∷ ASet ∷ MoreSets ∷ Exactly mark.CloseCurly ∷ st) (λ v. (v.1.0 ∷ v.1.1.0, v.1.1.1.1)) h q refl k
+      ∙ g0 (ASet ∷ MoreSets ∷ Exactly mark.CloseCurly ∷ st) (λ v. k (v.1.0 ∷ v.1.1.0, v.1.1.1.1)),
+)) z
 
 pub stops_with_2 : (a b0 b1 b2 : Ahead) (p : Place) (x1 : Set) (e : SyntaxFault) → head a.left ≡ Some token.With → Passes a p b0 → Gives (Exactly mark.OpenCurly) b0 tt b1 → Gives ASet b1 x1 b2 → Stops MoreSets b2 e → Stops With a e
 unfolding Gives
-stops_with_2 a b0 b1 b2 p x1 e h q g0 g1 z = stops_by With MoreSets a b2 e (λ st k. ((Exactly mark.CloseCurly ∷ st), (λ v. k (x1 ∷ v.0, v.1.1)),
-    passes_to With token.With a b0 p st (Exactly mark.OpenCurly ∷ ASet ∷ MoreSets ∷ Exactly mark.CloseCurly ∷ st) (λ v. (v.1.0 ∷ v.1.1.0, v.1.1.1.1)) h q refl k
-    ∙ g0 (ASet ∷ MoreSets ∷ Exactly mark.CloseCurly ∷ st) (λ v. k (v.1.0 ∷ v.1.1.0, v.1.1.1.1))
-    ∙ g1 (MoreSets ∷ Exactly mark.CloseCurly ∷ st) (λ v. k (v.0 ∷ v.1.0, v.1.1.1)))) z
+stops_with_2 a b0 b1 b2 p x1 e h q g0 g1 z = stops_by With MoreSets a b2 e (λ st k. (
+  (Exactly mark.CloseCurly ∷ st),
+  (λ v. k (x1 ∷ v.0, v.1.1)),
+  passes_to With token.With a b0 p st (Exactly mark.OpenCurly ∷ ASet ∷ MoreSets ∷ Exactly mark.CloseCurly ∷ st) (λ v. (v.1.0 ∷ v.1.1.0, v.1.1.1.1)) h q refl k
+      ∙ g0 (ASet ∷ MoreSets ∷ Exactly mark.CloseCurly ∷ st) (λ v. k (v.1.0 ∷ v.1.1.0, v.1.1.1.1))
+      ∙ g1 (MoreSets ∷ Exactly mark.CloseCurly ∷ st) (λ v. k (v.0 ∷ v.1.0, v.1.1.1)),
+)) z
 
 pub stops_with_3 : (a b0 b1 b2 b3 : Ahead) (p : Place) (x1 : Set) (x2 : List Set) (e : SyntaxFault) → head a.left ≡ Some token.With → Passes a p b0 → Gives (Exactly mark.OpenCurly) b0 tt b1 → Gives ASet b1 x1 b2 → Gives MoreSets b2 x2 b3 → Stops (Exactly mark.CloseCurly) b3 e → Stops With a e
 unfolding Gives
-stops_with_3 a b0 b1 b2 b3 p x1 x2 e h q g0 g1 g2 z = stops_by With (Exactly mark.CloseCurly) a b3 e (λ st k. ((st), (λ v. k (x1 ∷ x2, v.1)),
-    passes_to With token.With a b0 p st (Exactly mark.OpenCurly ∷ ASet ∷ MoreSets ∷ Exactly mark.CloseCurly ∷ st) (λ v. (v.1.0 ∷ v.1.1.0, v.1.1.1.1)) h q refl k
-    ∙ g0 (ASet ∷ MoreSets ∷ Exactly mark.CloseCurly ∷ st) (λ v. k (v.1.0 ∷ v.1.1.0, v.1.1.1.1))
-    ∙ g1 (MoreSets ∷ Exactly mark.CloseCurly ∷ st) (λ v. k (v.0 ∷ v.1.0, v.1.1.1))
-    ∙ g2 (Exactly mark.CloseCurly ∷ st) (λ v. k (x1 ∷ v.0, v.1.1)))) z
+stops_with_3 a b0 b1 b2 b3 p x1 x2 e h q g0 g1 g2 z = stops_by With (Exactly mark.CloseCurly) a b3 e (λ st k. (
+  (st),
+  (λ v. k (x1 ∷ x2, v.1)),
+  passes_to With token.With a b0 p st (Exactly mark.OpenCurly ∷ ASet ∷ MoreSets ∷ Exactly mark.CloseCurly ∷ st) (λ v. (v.1.0 ∷ v.1.1.0, v.1.1.1.1)) h q refl k
+      ∙ g0 (ASet ∷ MoreSets ∷ Exactly mark.CloseCurly ∷ st) (λ v. k (v.1.0 ∷ v.1.1.0, v.1.1.1.1))
+      ∙ g1 (MoreSets ∷ Exactly mark.CloseCurly ∷ st) (λ v. k (v.0 ∷ v.1.0, v.1.1.1))
+      ∙ g2 (Exactly mark.CloseCurly ∷ st) (λ v. k (x1 ∷ v.0, v.1.1)),
+)) z
 
 pub ruleset steps_with = (gives_with, halts_with, stops_with_0, stops_with_1, stops_with_2, stops_with_3, memory, reads_ok, reads_err)
 
@@ -361,21 +433,30 @@ gives_post b0 b1 b2 b3 p x0 x1 x2 q g0 g1 g2 = λ st k.
     ∙ g2 (st) (λ v. k (post_of p x0 x1 v.0, v.1))
 
 pub stops_post_0 : (b0 : Ahead) (p : Place) (e : SyntaxFault) → place_of b0.left ≡ p → Stops APrim b0 e → Stops APost b0 e
-stops_post_0 b0 p e q z = stops_by APost APrim b0 b0 e (λ st k. ((Fields ∷ With ∷ st), (λ v. k (post_of p v.0 v.1.0 v.1.1.0, v.1.1.1)),
-    open_post b0 p st k q)) z
+stops_post_0 b0 p e q z = stops_by APost APrim b0 b0 e (λ st k. (
+  (Fields ∷ With ∷ st),
+  (λ v. k (post_of p v.0 v.1.0 v.1.1.0, v.1.1.1)),
+  open_post b0 p st k q,
+)) z
 
 pub stops_post_1 : (b0 b1 : Ahead) (p : Place) (x0 : Prim) (e : SyntaxFault) → place_of b0.left ≡ p → Gives APrim b0 x0 b1 → Stops Fields b1 e → Stops APost b0 e
 unfolding Gives
-stops_post_1 b0 b1 p x0 e q g0 z = stops_by APost Fields b0 b1 e (λ st k. ((With ∷ st), (λ v. k (post_of p x0 v.0 v.1.0, v.1.1)),
-    open_post b0 p st k q
-    ∙ g0 (Fields ∷ With ∷ st) (λ v. k (post_of p v.0 v.1.0 v.1.1.0, v.1.1.1)))) z
+stops_post_1 b0 b1 p x0 e q g0 z = stops_by APost Fields b0 b1 e (λ st k. (
+  (With ∷ st),
+  (λ v. k (post_of p x0 v.0 v.1.0, v.1.1)),
+  open_post b0 p st k q
+      ∙ g0 (Fields ∷ With ∷ st) (λ v. k (post_of p v.0 v.1.0 v.1.1.0, v.1.1.1)),
+)) z
 
 pub stops_post_2 : (b0 b1 b2 : Ahead) (p : Place) (x0 : Prim) (x1 : List (List ℕ)) (e : SyntaxFault) → place_of b0.left ≡ p → Gives APrim b0 x0 b1 → Gives Fields b1 x1 b2 → Stops With b2 e → Stops APost b0 e
 unfolding Gives
-stops_post_2 b0 b1 b2 p x0 x1 e q g0 g1 z = stops_by APost With b0 b2 e (λ st k. ((st), (λ v. k (post_of p x0 x1 v.0, v.1)),
-    open_post b0 p st k q
-    ∙ g0 (Fields ∷ With ∷ st) (λ v. k (post_of p v.0 v.1.0 v.1.1.0, v.1.1.1))
-    ∙ g1 (With ∷ st) (λ v. k (post_of p x0 v.0 v.1.0, v.1.1)))) z
+stops_post_2 b0 b1 b2 p x0 x1 e q g0 g1 z = stops_by APost With b0 b2 e (λ st k. (
+  (st),
+  (λ v. k (post_of p x0 x1 v.0, v.1)),
+  open_post b0 p st k q
+      ∙ g0 (Fields ∷ With ∷ st) (λ v. k (post_of p v.0 v.1.0 v.1.1.0, v.1.1.1))
+      ∙ g1 (With ∷ st) (λ v. k (post_of p x0 v.0 v.1.0, v.1.1)),
+)) z
 
 pub ruleset steps_post = (gives_post, stops_post_0, stops_post_1, stops_post_2, memory, reads_ok, reads_err)
 
@@ -389,8 +470,11 @@ pub halts_not : (a : Ahead) (e : SyntaxFault) → head a.left ≡ Some token.Not
 halts_not a e h q = halts_at AUnary token.Not a e h q (λ p st. ((APost ∷ st), (λ v. (Not p v.0, v.1)), refl))
 
 pub stops_not_0 : (a b0 : Ahead) (p : Place) (e : SyntaxFault) → head a.left ≡ Some token.Not → Passes a p b0 → Stops APost b0 e → Stops AUnary a e
-stops_not_0 a b0 p e h q z = stops_by AUnary APost a b0 e (λ st k. ((st), (λ v. k (Not p v.0, v.1)),
-    passes_to AUnary token.Not a b0 p st (APost ∷ st) (λ v. (Not p v.0, v.1)) h q refl k)) z
+stops_not_0 a b0 p e h q z = stops_by AUnary APost a b0 e (λ st k. (
+  (st),
+  (λ v. k (Not p v.0, v.1)),
+  passes_to AUnary token.Not a b0 p st (APost ∷ st) (λ v. (Not p v.0, v.1)) h q refl k,
+)) z
 
 pub ruleset steps_not = (gives_not, halts_not, stops_not_0, memory, reads_ok, reads_err)
 
@@ -408,8 +492,11 @@ gives_bare b0 b1 p x0 q w g0 = λ st k.
     ∙ g0 (st) (λ v. k (Bare p v.0, v.1))
 
 pub stops_bare_0 : (b0 : Ahead) (p : Place) (e : SyntaxFault) → place_of b0.left ≡ p → no_not (head b0.left) ≡ true → Stops APost b0 e → Stops AUnary b0 e
-stops_bare_0 b0 p e q w z = stops_by AUnary APost b0 b0 e (λ st k. ((st), (λ v. k (Bare p v.0, v.1)),
-    open_bare b0 p st k q w)) z
+stops_bare_0 b0 p e q w z = stops_by AUnary APost b0 b0 e (λ st k. (
+  (st),
+  (λ v. k (Bare p v.0, v.1)),
+  open_bare b0 p st k q w,
+)) z
 
 pub ruleset steps_bare = (gives_bare, stops_bare_0, memory, reads_ok, reads_err)
 
@@ -423,8 +510,11 @@ pub halts_plus : (a : Ahead) (e : SyntaxFault) → head a.left ≡ Some token.Pl
 halts_plus a e h q = halts_at AnOffset token.Plus a e h q (λ p st. ((ANumber ∷ st), (λ v. (offset.Plus v.0, v.1)), refl))
 
 pub stops_plus_0 : (a b0 : Ahead) (p : Place) (e : SyntaxFault) → head a.left ≡ Some token.Plus → Passes a p b0 → Stops ANumber b0 e → Stops AnOffset a e
-stops_plus_0 a b0 p e h q z = stops_by AnOffset ANumber a b0 e (λ st k. ((st), (λ v. k (offset.Plus v.0, v.1)),
-    passes_to AnOffset token.Plus a b0 p st (ANumber ∷ st) (λ v. (offset.Plus v.0, v.1)) h q refl k)) z
+stops_plus_0 a b0 p e h q z = stops_by AnOffset ANumber a b0 e (λ st k. (
+  (st),
+  (λ v. k (offset.Plus v.0, v.1)),
+  passes_to AnOffset token.Plus a b0 p st (ANumber ∷ st) (λ v. (offset.Plus v.0, v.1)) h q refl k,
+)) z
 
 pub ruleset steps_plus = (gives_plus, halts_plus, stops_plus_0, memory, reads_ok, reads_err)
 
@@ -438,8 +528,11 @@ pub halts_minus : (a : Ahead) (e : SyntaxFault) → head a.left ≡ Some token.M
 halts_minus a e h q = halts_at AnOffset token.Minus a e h q (λ p st. ((ANumber ∷ st), (λ v. (offset.Minus v.0, v.1)), refl))
 
 pub stops_minus_0 : (a b0 : Ahead) (p : Place) (e : SyntaxFault) → head a.left ≡ Some token.Minus → Passes a p b0 → Stops ANumber b0 e → Stops AnOffset a e
-stops_minus_0 a b0 p e h q z = stops_by AnOffset ANumber a b0 e (λ st k. ((st), (λ v. k (offset.Minus v.0, v.1)),
-    passes_to AnOffset token.Minus a b0 p st (ANumber ∷ st) (λ v. (offset.Minus v.0, v.1)) h q refl k)) z
+stops_minus_0 a b0 p e h q z = stops_by AnOffset ANumber a b0 e (λ st k. (
+  (st),
+  (λ v. k (offset.Minus v.0, v.1)),
+  passes_to AnOffset token.Minus a b0 p st (ANumber ∷ st) (λ v. (offset.Minus v.0, v.1)) h q refl k,
+)) z
 
 pub ruleset steps_minus = (gives_minus, halts_minus, stops_minus_0, memory, reads_ok, reads_err)
 
@@ -454,14 +547,20 @@ gives_sum b0 b1 b2 p x0 x1 q g0 g1 = λ st k.
     ∙ g1 (st) (λ v. k (sum_of p x0 v.0, v.1))
 
 pub stops_sum_0 : (b0 : Ahead) (p : Place) (e : SyntaxFault) → place_of b0.left ≡ p → Stops AUnary b0 e → Stops ASum b0 e
-stops_sum_0 b0 p e q z = stops_by ASum AUnary b0 b0 e (λ st k. ((AnOffset ∷ st), (λ v. k (sum_of p v.0 v.1.0, v.1.1)),
-    open_sum b0 p st k q)) z
+stops_sum_0 b0 p e q z = stops_by ASum AUnary b0 b0 e (λ st k. (
+  (AnOffset ∷ st),
+  (λ v. k (sum_of p v.0 v.1.0, v.1.1)),
+  open_sum b0 p st k q,
+)) z
 
 pub stops_sum_1 : (b0 b1 : Ahead) (p : Place) (x0 : Unary) (e : SyntaxFault) → place_of b0.left ≡ p → Gives AUnary b0 x0 b1 → Stops AnOffset b1 e → Stops ASum b0 e
 unfolding Gives
-stops_sum_1 b0 b1 p x0 e q g0 z = stops_by ASum AnOffset b0 b1 e (λ st k. ((st), (λ v. k (sum_of p x0 v.0, v.1)),
-    open_sum b0 p st k q
-    ∙ g0 (AnOffset ∷ st) (λ v. k (sum_of p v.0 v.1.0, v.1.1)))) z
+stops_sum_1 b0 b1 p x0 e q g0 z = stops_by ASum AnOffset b0 b1 e (λ st k. (
+  (st),
+  (λ v. k (sum_of p x0 v.0, v.1)),
+  open_sum b0 p st k q
+      ∙ g0 (AnOffset ∷ st) (λ v. k (sum_of p v.0 v.1.0, v.1.1)),
+)) z
 
 pub ruleset steps_sum = (gives_sum, stops_sum_0, stops_sum_1, memory, reads_ok, reads_err)
 
@@ -476,14 +575,20 @@ gives_cmp b0 b1 b2 p x0 x1 q g0 g1 = λ st k.
     ∙ g1 (st) (λ v. k (cmp_of p x0 v.0, v.1))
 
 pub stops_cmp_0 : (b0 : Ahead) (p : Place) (e : SyntaxFault) → place_of b0.left ≡ p → Stops ASum b0 e → Stops ACmp b0 e
-stops_cmp_0 b0 p e q z = stops_by ACmp ASum b0 b0 e (λ st k. ((Right ∷ st), (λ v. k (cmp_of p v.0 v.1.0, v.1.1)),
-    open_cmp b0 p st k q)) z
+stops_cmp_0 b0 p e q z = stops_by ACmp ASum b0 b0 e (λ st k. (
+  (Right ∷ st),
+  (λ v. k (cmp_of p v.0 v.1.0, v.1.1)),
+  open_cmp b0 p st k q,
+)) z
 
 pub stops_cmp_1 : (b0 b1 : Ahead) (p : Place) (x0 : Sum) (e : SyntaxFault) → place_of b0.left ≡ p → Gives ASum b0 x0 b1 → Stops Right b1 e → Stops ACmp b0 e
 unfolding Gives
-stops_cmp_1 b0 b1 p x0 e q g0 z = stops_by ACmp Right b0 b1 e (λ st k. ((st), (λ v. k (cmp_of p x0 v.0, v.1)),
-    open_cmp b0 p st k q
-    ∙ g0 (Right ∷ st) (λ v. k (cmp_of p v.0 v.1.0, v.1.1)))) z
+stops_cmp_1 b0 b1 p x0 e q g0 z = stops_by ACmp Right b0 b1 e (λ st k. (
+  (st),
+  (λ v. k (cmp_of p x0 v.0, v.1)),
+  open_cmp b0 p st k q
+      ∙ g0 (Right ∷ st) (λ v. k (cmp_of p v.0 v.1.0, v.1.1)),
+)) z
 
 pub ruleset steps_cmp = (gives_cmp, stops_cmp_0, stops_cmp_1, memory, reads_ok, reads_err)
 
@@ -498,14 +603,20 @@ pub halts_and : (a : Ahead) (e : SyntaxFault) → head a.left ≡ Some token.And
 halts_and a e h q = halts_at MoreCmps token.And a e h q (λ p st. ((ACmp ∷ Ands ∷ st), (λ v. (joined.And v.0 v.1.0, v.1.1)), refl))
 
 pub stops_and_0 : (a b0 : Ahead) (p : Place) (e : SyntaxFault) → head a.left ≡ Some token.And → Passes a p b0 → Stops ACmp b0 e → Stops MoreCmps a e
-stops_and_0 a b0 p e h q z = stops_by MoreCmps ACmp a b0 e (λ st k. ((Ands ∷ st), (λ v. k (joined.And v.0 v.1.0, v.1.1)),
-    passes_to MoreCmps token.And a b0 p st (ACmp ∷ Ands ∷ st) (λ v. (joined.And v.0 v.1.0, v.1.1)) h q refl k)) z
+stops_and_0 a b0 p e h q z = stops_by MoreCmps ACmp a b0 e (λ st k. (
+  (Ands ∷ st),
+  (λ v. k (joined.And v.0 v.1.0, v.1.1)),
+  passes_to MoreCmps token.And a b0 p st (ACmp ∷ Ands ∷ st) (λ v. (joined.And v.0 v.1.0, v.1.1)) h q refl k,
+)) z
 
 pub stops_and_1 : (a b0 b1 : Ahead) (p : Place) (x0 : Cmp) (e : SyntaxFault) → head a.left ≡ Some token.And → Passes a p b0 → Gives ACmp b0 x0 b1 → Stops Ands b1 e → Stops MoreCmps a e
 unfolding Gives
-stops_and_1 a b0 b1 p x0 e h q g0 z = stops_by MoreCmps Ands a b1 e (λ st k. ((st), (λ v. k (joined.And x0 v.0, v.1)),
-    passes_to MoreCmps token.And a b0 p st (ACmp ∷ Ands ∷ st) (λ v. (joined.And v.0 v.1.0, v.1.1)) h q refl k
-    ∙ g0 (Ands ∷ st) (λ v. k (joined.And v.0 v.1.0, v.1.1)))) z
+stops_and_1 a b0 b1 p x0 e h q g0 z = stops_by MoreCmps Ands a b1 e (λ st k. (
+  (st),
+  (λ v. k (joined.And x0 v.0, v.1)),
+  passes_to MoreCmps token.And a b0 p st (ACmp ∷ Ands ∷ st) (λ v. (joined.And v.0 v.1.0, v.1.1)) h q refl k
+      ∙ g0 (Ands ∷ st) (λ v. k (joined.And v.0 v.1.0, v.1.1)),
+)) z
 
 pub ruleset steps_and = (gives_and, halts_and, stops_and_0, stops_and_1, memory, reads_ok, reads_err)
 
@@ -520,14 +631,20 @@ pub halts_or : (a : Ahead) (e : SyntaxFault) → head a.left ≡ Some token.Or �
 halts_or a e h q = halts_at MoreCmps token.Or a e h q (λ p st. ((ACmp ∷ Ors ∷ st), (λ v. (joined.Or v.0 v.1.0, v.1.1)), refl))
 
 pub stops_or_0 : (a b0 : Ahead) (p : Place) (e : SyntaxFault) → head a.left ≡ Some token.Or → Passes a p b0 → Stops ACmp b0 e → Stops MoreCmps a e
-stops_or_0 a b0 p e h q z = stops_by MoreCmps ACmp a b0 e (λ st k. ((Ors ∷ st), (λ v. k (joined.Or v.0 v.1.0, v.1.1)),
-    passes_to MoreCmps token.Or a b0 p st (ACmp ∷ Ors ∷ st) (λ v. (joined.Or v.0 v.1.0, v.1.1)) h q refl k)) z
+stops_or_0 a b0 p e h q z = stops_by MoreCmps ACmp a b0 e (λ st k. (
+  (Ors ∷ st),
+  (λ v. k (joined.Or v.0 v.1.0, v.1.1)),
+  passes_to MoreCmps token.Or a b0 p st (ACmp ∷ Ors ∷ st) (λ v. (joined.Or v.0 v.1.0, v.1.1)) h q refl k,
+)) z
 
 pub stops_or_1 : (a b0 b1 : Ahead) (p : Place) (x0 : Cmp) (e : SyntaxFault) → head a.left ≡ Some token.Or → Passes a p b0 → Gives ACmp b0 x0 b1 → Stops Ors b1 e → Stops MoreCmps a e
 unfolding Gives
-stops_or_1 a b0 b1 p x0 e h q g0 z = stops_by MoreCmps Ors a b1 e (λ st k. ((st), (λ v. k (joined.Or x0 v.0, v.1)),
-    passes_to MoreCmps token.Or a b0 p st (ACmp ∷ Ors ∷ st) (λ v. (joined.Or v.0 v.1.0, v.1.1)) h q refl k
-    ∙ g0 (Ors ∷ st) (λ v. k (joined.Or v.0 v.1.0, v.1.1)))) z
+stops_or_1 a b0 b1 p x0 e h q g0 z = stops_by MoreCmps Ors a b1 e (λ st k. (
+  (st),
+  (λ v. k (joined.Or x0 v.0, v.1)),
+  passes_to MoreCmps token.Or a b0 p st (ACmp ∷ Ors ∷ st) (λ v. (joined.Or v.0 v.1.0, v.1.1)) h q refl k
+      ∙ g0 (Ors ∷ st) (λ v. k (joined.Or v.0 v.1.0, v.1.1)),
+)) z
 
 pub ruleset steps_or = (gives_or, halts_or, stops_or_0, stops_or_1, memory, reads_ok, reads_err)
 
@@ -542,14 +659,20 @@ gives_expr b0 b1 b2 p x0 x1 q g0 g1 = λ st k.
     ∙ g1 (st) (λ v. k (expr_of p x0 v.0, v.1))
 
 pub stops_expr_0 : (b0 : Ahead) (p : Place) (e : SyntaxFault) → place_of b0.left ≡ p → Stops ACmp b0 e → Stops AnExpr b0 e
-stops_expr_0 b0 p e q z = stops_by AnExpr ACmp b0 b0 e (λ st k. ((MoreCmps ∷ st), (λ v. k (expr_of p v.0 v.1.0, v.1.1)),
-    open_expr b0 p st k q)) z
+stops_expr_0 b0 p e q z = stops_by AnExpr ACmp b0 b0 e (λ st k. (
+  (MoreCmps ∷ st),
+  (λ v. k (expr_of p v.0 v.1.0, v.1.1)),
+  open_expr b0 p st k q,
+)) z
 
 pub stops_expr_1 : (b0 b1 : Ahead) (p : Place) (x0 : Cmp) (e : SyntaxFault) → place_of b0.left ≡ p → Gives ACmp b0 x0 b1 → Stops MoreCmps b1 e → Stops AnExpr b0 e
 unfolding Gives
-stops_expr_1 b0 b1 p x0 e q g0 z = stops_by AnExpr MoreCmps b0 b1 e (λ st k. ((st), (λ v. k (expr_of p x0 v.0, v.1)),
-    open_expr b0 p st k q
-    ∙ g0 (MoreCmps ∷ st) (λ v. k (expr_of p v.0 v.1.0, v.1.1)))) z
+stops_expr_1 b0 b1 p x0 e q g0 z = stops_by AnExpr MoreCmps b0 b1 e (λ st k. (
+  (st),
+  (λ v. k (expr_of p x0 v.0, v.1)),
+  open_expr b0 p st k q
+      ∙ g0 (MoreCmps ∷ st) (λ v. k (expr_of p v.0 v.1.0, v.1.1)),
+)) z
 
 pub ruleset steps_expr = (gives_expr, stops_expr_0, stops_expr_1, memory, reads_ok, reads_err)
 
@@ -563,8 +686,11 @@ pub halts_where : (a : Ahead) (e : SyntaxFault) → head a.left ≡ Some token.W
 halts_where a e h q = halts_at Where token.Where a e h q (λ p st. ((AnExpr ∷ st), (λ v. (Some v.0, v.1)), refl))
 
 pub stops_where_0 : (a b0 : Ahead) (p : Place) (e : SyntaxFault) → head a.left ≡ Some token.Where → Passes a p b0 → Stops AnExpr b0 e → Stops Where a e
-stops_where_0 a b0 p e h q z = stops_by Where AnExpr a b0 e (λ st k. ((st), (λ v. k (Some v.0, v.1)),
-    passes_to Where token.Where a b0 p st (AnExpr ∷ st) (λ v. (Some v.0, v.1)) h q refl k)) z
+stops_where_0 a b0 p e h q z = stops_by Where AnExpr a b0 e (λ st k. (
+  (st),
+  (λ v. k (Some v.0, v.1)),
+  passes_to Where token.Where a b0 p st (AnExpr ∷ st) (λ v. (Some v.0, v.1)) h q refl k,
+)) z
 
 pub ruleset steps_where = (gives_where, halts_where, stops_where_0, memory, reads_ok, reads_err)
 
@@ -586,7 +712,10 @@ pub halts_right : (a : Ahead) (e : SyntaxFault) (r : Relation) → head a.left �
 halts_right a e r h q = halts_at Right (relation_token r) a e h q (λ p st. ((ASum ∷ st), (λ v. (right.Related r v.0, v.1)), right_at_token r st (shift st (Some (relation_token r)) p)))
 
 pub stops_right_0 : (a b0 : Ahead) (p : Place) (e : SyntaxFault) (r : Relation) → head a.left ≡ Some (relation_token r) → Passes a p b0 → Stops ASum b0 e → Stops Right a e
-stops_right_0 a b0 p e r h q z = stops_by Right ASum a b0 e (λ st k. ((st), (λ v. k (right.Related r v.0, v.1)),
-    passes_to Right (relation_token r) a b0 p st (ASum ∷ st) (λ v. (right.Related r v.0, v.1)) h q (right_at_token r st (shift st (Some (relation_token r)) p)) k)) z
+stops_right_0 a b0 p e r h q z = stops_by Right ASum a b0 e (λ st k. (
+  (st),
+  (λ v. k (right.Related r v.0, v.1)),
+  passes_to Right (relation_token r) a b0 p st (ASum ∷ st) (λ v. (right.Related r v.0, v.1)) h q (right_at_token r st (shift st (Some (relation_token r)) p)) k,
+)) z
 
 pub ruleset steps_right = (gives_right, halts_right, stops_right_0, memory, reads_ok, reads_err)

@@ -55,8 +55,11 @@ gives_digits b0 b1 p x0 q w g0 = λ st k.
     ∙ g0 (st) (λ v. k (Digits p v.0, v.1))
 
 pub stops_digits_0 : (b0 : Ahead) (p : Place) (e : SyntaxFault) → place_of b0.left ≡ p → starts_number (head b0.left) ≡ true → Stops ANumber b0 e → Stops ANum b0 e
-stops_digits_0 b0 p e q w z = stops_by ANum ANumber b0 b0 e (λ st k. ((st), (λ v. k (Digits p v.0, v.1)),
-    open_digits b0 p st k q w)) z
+stops_digits_0 b0 p e q w z = stops_by ANum ANumber b0 b0 e (λ st k. (
+  (st),
+  (λ v. k (Digits p v.0, v.1)),
+  open_digits b0 p st k q w,
+)) z
 
 pub ruleset steps_digits = (gives_digits, stops_digits_0, memory, reads_ok, reads_err)
 
@@ -70,8 +73,11 @@ pub halts_negative : (a : Ahead) (e : SyntaxFault) → head a.left ≡ Some toke
 halts_negative a e h q = halts_at ANum token.Minus a e h q (λ p st. ((ANumber ∷ st), (λ v. (Negative p v.0, v.1)), refl))
 
 pub stops_negative_0 : (a b0 : Ahead) (p : Place) (e : SyntaxFault) → head a.left ≡ Some token.Minus → Passes a p b0 → Stops ANumber b0 e → Stops ANum a e
-stops_negative_0 a b0 p e h q z = stops_by ANum ANumber a b0 e (λ st k. ((st), (λ v. k (Negative p v.0, v.1)),
-    passes_to ANum token.Minus a b0 p st (ANumber ∷ st) (λ v. (Negative p v.0, v.1)) h q refl k)) z
+stops_negative_0 a b0 p e h q z = stops_by ANum ANumber a b0 e (λ st k. (
+  (st),
+  (λ v. k (Negative p v.0, v.1)),
+  passes_to ANum token.Minus a b0 p st (ANumber ∷ st) (λ v. (Negative p v.0, v.1)) h q refl k,
+)) z
 
 pub ruleset steps_negative = (gives_negative, halts_negative, stops_negative_0, memory, reads_ok, reads_err)
 
@@ -99,8 +105,11 @@ gives_named b0 b1 p x0 q w g0 = λ st k.
     ∙ g0 (st) (λ v. k (type.Named p v.0, v.1))
 
 pub stops_named_0 : (b0 : Ahead) (p : Place) (e : SyntaxFault) → place_of b0.left ≡ p → starts_name (head b0.left) ≡ true → Stops AName b0 e → Stops AType b0 e
-stops_named_0 b0 p e q w z = stops_by AType AName b0 b0 e (λ st k. ((st), (λ v. k (type.Named p v.0, v.1)),
-    open_named b0 p st k q w)) z
+stops_named_0 b0 p e q w z = stops_by AType AName b0 b0 e (λ st k. (
+  (st),
+  (λ v. k (type.Named p v.0, v.1)),
+  open_named b0 p st k q w,
+)) z
 
 pub ruleset steps_named = (gives_named, stops_named_0, memory, reads_ok, reads_err)
 
@@ -116,21 +125,30 @@ pub halts_optional : (a : Ahead) (e : SyntaxFault) → head a.left ≡ Some toke
 halts_optional a e h q = halts_at AType token.Option a e h q (λ p st. ((Exactly mark.OpenRound ∷ AType ∷ Exactly mark.CloseRound ∷ st), (λ v. (type.Optional p v.1.0, v.1.1.1)), refl))
 
 pub stops_optional_0 : (a b0 : Ahead) (p : Place) (e : SyntaxFault) → head a.left ≡ Some token.Option → Passes a p b0 → Stops (Exactly mark.OpenRound) b0 e → Stops AType a e
-stops_optional_0 a b0 p e h q z = stops_by AType (Exactly mark.OpenRound) a b0 e (λ st k. ((AType ∷ Exactly mark.CloseRound ∷ st), (λ v. k (type.Optional p v.1.0, v.1.1.1)),
-    passes_to AType token.Option a b0 p st (Exactly mark.OpenRound ∷ AType ∷ Exactly mark.CloseRound ∷ st) (λ v. (type.Optional p v.1.0, v.1.1.1)) h q refl k)) z
+stops_optional_0 a b0 p e h q z = stops_by AType (Exactly mark.OpenRound) a b0 e (λ st k. (
+  (AType ∷ Exactly mark.CloseRound ∷ st),
+  (λ v. k (type.Optional p v.1.0, v.1.1.1)),
+  passes_to AType token.Option a b0 p st (Exactly mark.OpenRound ∷ AType ∷ Exactly mark.CloseRound ∷ st) (λ v. (type.Optional p v.1.0, v.1.1.1)) h q refl k,
+)) z
 
 pub stops_optional_1 : (a b0 b1 : Ahead) (p : Place) (e : SyntaxFault) → head a.left ≡ Some token.Option → Passes a p b0 → Gives (Exactly mark.OpenRound) b0 tt b1 → Stops AType b1 e → Stops AType a e
 unfolding Gives
-stops_optional_1 a b0 b1 p e h q g0 z = stops_by AType AType a b1 e (λ st k. ((Exactly mark.CloseRound ∷ st), (λ v. k (type.Optional p v.0, v.1.1)),
-    passes_to AType token.Option a b0 p st (Exactly mark.OpenRound ∷ AType ∷ Exactly mark.CloseRound ∷ st) (λ v. (type.Optional p v.1.0, v.1.1.1)) h q refl k
-    ∙ g0 (AType ∷ Exactly mark.CloseRound ∷ st) (λ v. k (type.Optional p v.1.0, v.1.1.1)))) z
+stops_optional_1 a b0 b1 p e h q g0 z = stops_by AType AType a b1 e (λ st k. (
+  (Exactly mark.CloseRound ∷ st),
+  (λ v. k (type.Optional p v.0, v.1.1)),
+  passes_to AType token.Option a b0 p st (Exactly mark.OpenRound ∷ AType ∷ Exactly mark.CloseRound ∷ st) (λ v. (type.Optional p v.1.0, v.1.1.1)) h q refl k
+      ∙ g0 (AType ∷ Exactly mark.CloseRound ∷ st) (λ v. k (type.Optional p v.1.0, v.1.1.1)),
+)) z
 
 pub stops_optional_2 : (a b0 b1 b2 : Ahead) (p : Place) (x1 : TypeTree) (e : SyntaxFault) → head a.left ≡ Some token.Option → Passes a p b0 → Gives (Exactly mark.OpenRound) b0 tt b1 → Gives AType b1 x1 b2 → Stops (Exactly mark.CloseRound) b2 e → Stops AType a e
 unfolding Gives
-stops_optional_2 a b0 b1 b2 p x1 e h q g0 g1 z = stops_by AType (Exactly mark.CloseRound) a b2 e (λ st k. ((st), (λ v. k (type.Optional p x1, v.1)),
-    passes_to AType token.Option a b0 p st (Exactly mark.OpenRound ∷ AType ∷ Exactly mark.CloseRound ∷ st) (λ v. (type.Optional p v.1.0, v.1.1.1)) h q refl k
-    ∙ g0 (AType ∷ Exactly mark.CloseRound ∷ st) (λ v. k (type.Optional p v.1.0, v.1.1.1))
-    ∙ g1 (Exactly mark.CloseRound ∷ st) (λ v. k (type.Optional p v.0, v.1.1)))) z
+stops_optional_2 a b0 b1 b2 p x1 e h q g0 g1 z = stops_by AType (Exactly mark.CloseRound) a b2 e (λ st k. (
+  (st),
+  (λ v. k (type.Optional p x1, v.1)),
+  passes_to AType token.Option a b0 p st (Exactly mark.OpenRound ∷ AType ∷ Exactly mark.CloseRound ∷ st) (λ v. (type.Optional p v.1.0, v.1.1.1)) h q refl k
+      ∙ g0 (AType ∷ Exactly mark.CloseRound ∷ st) (λ v. k (type.Optional p v.1.0, v.1.1.1))
+      ∙ g1 (Exactly mark.CloseRound ∷ st) (λ v. k (type.Optional p v.0, v.1.1)),
+)) z
 
 pub ruleset steps_optional = (gives_optional, halts_optional, stops_optional_0, stops_optional_1, stops_optional_2, memory, reads_ok, reads_err)
 
@@ -146,21 +164,30 @@ gives_part b0 b1 b2 b3 p x0 x2 q g0 g1 g2 = λ st k.
     ∙ g2 (st) (λ v. k (part_of p x0 v.0, v.1))
 
 pub stops_part_0 : (b0 : Ahead) (p : Place) (e : SyntaxFault) → place_of b0.left ≡ p → Stops AName b0 e → Stops APart b0 e
-stops_part_0 b0 p e q z = stops_by APart AName b0 b0 e (λ st k. ((Exactly mark.Colon ∷ AType ∷ st), (λ v. k (part_of p v.0 v.1.1.0, v.1.1.1)),
-    open_part b0 p st k q)) z
+stops_part_0 b0 p e q z = stops_by APart AName b0 b0 e (λ st k. (
+  (Exactly mark.Colon ∷ AType ∷ st),
+  (λ v. k (part_of p v.0 v.1.1.0, v.1.1.1)),
+  open_part b0 p st k q,
+)) z
 
 pub stops_part_1 : (b0 b1 : Ahead) (p : Place) (x0 : List ℕ) (e : SyntaxFault) → place_of b0.left ≡ p → Gives AName b0 x0 b1 → Stops (Exactly mark.Colon) b1 e → Stops APart b0 e
 unfolding Gives
-stops_part_1 b0 b1 p x0 e q g0 z = stops_by APart (Exactly mark.Colon) b0 b1 e (λ st k. ((AType ∷ st), (λ v. k (part_of p x0 v.1.0, v.1.1)),
-    open_part b0 p st k q
-    ∙ g0 (Exactly mark.Colon ∷ AType ∷ st) (λ v. k (part_of p v.0 v.1.1.0, v.1.1.1)))) z
+stops_part_1 b0 b1 p x0 e q g0 z = stops_by APart (Exactly mark.Colon) b0 b1 e (λ st k. (
+  (AType ∷ st),
+  (λ v. k (part_of p x0 v.1.0, v.1.1)),
+  open_part b0 p st k q
+      ∙ g0 (Exactly mark.Colon ∷ AType ∷ st) (λ v. k (part_of p v.0 v.1.1.0, v.1.1.1)),
+)) z
 
 pub stops_part_2 : (b0 b1 b2 : Ahead) (p : Place) (x0 : List ℕ) (e : SyntaxFault) → place_of b0.left ≡ p → Gives AName b0 x0 b1 → Gives (Exactly mark.Colon) b1 tt b2 → Stops AType b2 e → Stops APart b0 e
 unfolding Gives
-stops_part_2 b0 b1 b2 p x0 e q g0 g1 z = stops_by APart AType b0 b2 e (λ st k. ((st), (λ v. k (part_of p x0 v.0, v.1)),
-    open_part b0 p st k q
-    ∙ g0 (Exactly mark.Colon ∷ AType ∷ st) (λ v. k (part_of p v.0 v.1.1.0, v.1.1.1))
-    ∙ g1 (AType ∷ st) (λ v. k (part_of p x0 v.1.0, v.1.1)))) z
+stops_part_2 b0 b1 b2 p x0 e q g0 g1 z = stops_by APart AType b0 b2 e (λ st k. (
+  (st),
+  (λ v. k (part_of p x0 v.0, v.1)),
+  open_part b0 p st k q
+      ∙ g0 (Exactly mark.Colon ∷ AType ∷ st) (λ v. k (part_of p v.0 v.1.1.0, v.1.1.1))
+      ∙ g1 (AType ∷ st) (λ v. k (part_of p x0 v.1.0, v.1.1)),
+)) z
 
 pub ruleset steps_part = (gives_part, stops_part_0, stops_part_1, stops_part_2, memory, reads_ok, reads_err)
 
@@ -179,14 +206,20 @@ gives_params b0 b1 b2 x0 x1 w g0 g1 = λ st k.
     ∙ g1 (st) (λ v. k (x0 ∷ v.0, v.1))
 
 pub stops_params_0 : (b0 : Ahead) (e : SyntaxFault) → starts_name (head b0.left) ≡ true → Stops APart b0 e → Stops Params b0 e
-stops_params_0 b0 e w z = stops_by Params APart b0 b0 e (λ st k. ((MoreParts ∷ st), (λ v. k (v.0 ∷ v.1.0, v.1.1)),
-    open_params b0 st k w)) z
+stops_params_0 b0 e w z = stops_by Params APart b0 b0 e (λ st k. (
+  (MoreParts ∷ st),
+  (λ v. k (v.0 ∷ v.1.0, v.1.1)),
+  open_params b0 st k w,
+)) z
 
 pub stops_params_1 : (b0 b1 : Ahead) (x0 : Part) (e : SyntaxFault) → starts_name (head b0.left) ≡ true → Gives APart b0 x0 b1 → Stops MoreParts b1 e → Stops Params b0 e
 unfolding Gives
-stops_params_1 b0 b1 x0 e w g0 z = stops_by Params MoreParts b0 b1 e (λ st k. ((st), (λ v. k (x0 ∷ v.0, v.1)),
-    open_params b0 st k w
-    ∙ g0 (MoreParts ∷ st) (λ v. k (v.0 ∷ v.1.0, v.1.1)))) z
+stops_params_1 b0 b1 x0 e w g0 z = stops_by Params MoreParts b0 b1 e (λ st k. (
+  (st),
+  (λ v. k (x0 ∷ v.0, v.1)),
+  open_params b0 st k w
+      ∙ g0 (MoreParts ∷ st) (λ v. k (v.0 ∷ v.1.0, v.1.1)),
+)) z
 
 pub ruleset steps_params = (gives_params, stops_params_0, stops_params_1, memory, reads_ok, reads_err)
 
@@ -202,21 +235,30 @@ pub halts_internals : (a : Ahead) (e : SyntaxFault) → head a.left ≡ Some tok
 halts_internals a e h q = halts_at Internals token.Semicolon a e h q (λ p st. ((Exactly mark.Internal ∷ APart ∷ MoreParts ∷ st), (λ v. (v.1.0 ∷ v.1.1.0, v.1.1.1)), refl))
 
 pub stops_internals_0 : (a b0 : Ahead) (p : Place) (e : SyntaxFault) → head a.left ≡ Some token.Semicolon → Passes a p b0 → Stops (Exactly mark.Internal) b0 e → Stops Internals a e
-stops_internals_0 a b0 p e h q z = stops_by Internals (Exactly mark.Internal) a b0 e (λ st k. ((APart ∷ MoreParts ∷ st), (λ v. k (v.1.0 ∷ v.1.1.0, v.1.1.1)),
-    passes_to Internals token.Semicolon a b0 p st (Exactly mark.Internal ∷ APart ∷ MoreParts ∷ st) (λ v. (v.1.0 ∷ v.1.1.0, v.1.1.1)) h q refl k)) z
+stops_internals_0 a b0 p e h q z = stops_by Internals (Exactly mark.Internal) a b0 e (λ st k. (
+  (APart ∷ MoreParts ∷ st),
+  (λ v. k (v.1.0 ∷ v.1.1.0, v.1.1.1)),
+  passes_to Internals token.Semicolon a b0 p st (Exactly mark.Internal ∷ APart ∷ MoreParts ∷ st) (λ v. (v.1.0 ∷ v.1.1.0, v.1.1.1)) h q refl k,
+)) z
 
 pub stops_internals_1 : (a b0 b1 : Ahead) (p : Place) (e : SyntaxFault) → head a.left ≡ Some token.Semicolon → Passes a p b0 → Gives (Exactly mark.Internal) b0 tt b1 → Stops APart b1 e → Stops Internals a e
 unfolding Gives
-stops_internals_1 a b0 b1 p e h q g0 z = stops_by Internals APart a b1 e (λ st k. ((MoreParts ∷ st), (λ v. k (v.0 ∷ v.1.0, v.1.1)),
-    passes_to Internals token.Semicolon a b0 p st (Exactly mark.Internal ∷ APart ∷ MoreParts ∷ st) (λ v. (v.1.0 ∷ v.1.1.0, v.1.1.1)) h q refl k
-    ∙ g0 (APart ∷ MoreParts ∷ st) (λ v. k (v.1.0 ∷ v.1.1.0, v.1.1.1)))) z
+stops_internals_1 a b0 b1 p e h q g0 z = stops_by Internals APart a b1 e (λ st k. (
+  (MoreParts ∷ st),
+  (λ v. k (v.0 ∷ v.1.0, v.1.1)),
+  passes_to Internals token.Semicolon a b0 p st (Exactly mark.Internal ∷ APart ∷ MoreParts ∷ st) (λ v. (v.1.0 ∷ v.1.1.0, v.1.1.1)) h q refl k
+      ∙ g0 (APart ∷ MoreParts ∷ st) (λ v. k (v.1.0 ∷ v.1.1.0, v.1.1.1)),
+)) z
 
 pub stops_internals_2 : (a b0 b1 b2 : Ahead) (p : Place) (x1 : Part) (e : SyntaxFault) → head a.left ≡ Some token.Semicolon → Passes a p b0 → Gives (Exactly mark.Internal) b0 tt b1 → Gives APart b1 x1 b2 → Stops MoreParts b2 e → Stops Internals a e
 unfolding Gives
-stops_internals_2 a b0 b1 b2 p x1 e h q g0 g1 z = stops_by Internals MoreParts a b2 e (λ st k. ((st), (λ v. k (x1 ∷ v.0, v.1)),
-    passes_to Internals token.Semicolon a b0 p st (Exactly mark.Internal ∷ APart ∷ MoreParts ∷ st) (λ v. (v.1.0 ∷ v.1.1.0, v.1.1.1)) h q refl k
-    ∙ g0 (APart ∷ MoreParts ∷ st) (λ v. k (v.1.0 ∷ v.1.1.0, v.1.1.1))
-    ∙ g1 (MoreParts ∷ st) (λ v. k (v.0 ∷ v.1.0, v.1.1)))) z
+stops_internals_2 a b0 b1 b2 p x1 e h q g0 g1 z = stops_by Internals MoreParts a b2 e (λ st k. (
+  (st),
+  (λ v. k (x1 ∷ v.0, v.1)),
+  passes_to Internals token.Semicolon a b0 p st (Exactly mark.Internal ∷ APart ∷ MoreParts ∷ st) (λ v. (v.1.0 ∷ v.1.1.0, v.1.1.1)) h q refl k
+      ∙ g0 (APart ∷ MoreParts ∷ st) (λ v. k (v.1.0 ∷ v.1.1.0, v.1.1.1))
+      ∙ g1 (MoreParts ∷ st) (λ v. k (v.0 ∷ v.1.0, v.1.1)),
+)) z
 
 pub ruleset steps_internals = (gives_internals, halts_internals, stops_internals_0, stops_internals_1, stops_internals_2, memory, reads_ok, reads_err)
 
@@ -231,13 +273,19 @@ pub halts_map : (a : Ahead) (e : SyntaxFault) → head a.left ≡ Some token.Map
 halts_map a e h q = halts_at Key token.Map a e h q (λ p st. ((AType ∷ Exactly mark.Arrow ∷ st), (λ v. (Some v.0, v.1.1)), refl))
 
 pub stops_map_0 : (a b0 : Ahead) (p : Place) (e : SyntaxFault) → head a.left ≡ Some token.Map → Passes a p b0 → Stops AType b0 e → Stops Key a e
-stops_map_0 a b0 p e h q z = stops_by Key AType a b0 e (λ st k. ((Exactly mark.Arrow ∷ st), (λ v. k (Some v.0, v.1.1)),
-    passes_to Key token.Map a b0 p st (AType ∷ Exactly mark.Arrow ∷ st) (λ v. (Some v.0, v.1.1)) h q refl k)) z
+stops_map_0 a b0 p e h q z = stops_by Key AType a b0 e (λ st k. (
+  (Exactly mark.Arrow ∷ st),
+  (λ v. k (Some v.0, v.1.1)),
+  passes_to Key token.Map a b0 p st (AType ∷ Exactly mark.Arrow ∷ st) (λ v. (Some v.0, v.1.1)) h q refl k,
+)) z
 
 pub stops_map_1 : (a b0 b1 : Ahead) (p : Place) (x0 : TypeTree) (e : SyntaxFault) → head a.left ≡ Some token.Map → Passes a p b0 → Gives AType b0 x0 b1 → Stops (Exactly mark.Arrow) b1 e → Stops Key a e
 unfolding Gives
-stops_map_1 a b0 b1 p x0 e h q g0 z = stops_by Key (Exactly mark.Arrow) a b1 e (λ st k. ((st), (λ v. k (Some x0, v.1)),
-    passes_to Key token.Map a b0 p st (AType ∷ Exactly mark.Arrow ∷ st) (λ v. (Some v.0, v.1.1)) h q refl k
-    ∙ g0 (Exactly mark.Arrow ∷ st) (λ v. k (Some v.0, v.1.1)))) z
+stops_map_1 a b0 b1 p x0 e h q g0 z = stops_by Key (Exactly mark.Arrow) a b1 e (λ st k. (
+  (st),
+  (λ v. k (Some x0, v.1)),
+  passes_to Key token.Map a b0 p st (AType ∷ Exactly mark.Arrow ∷ st) (λ v. (Some v.0, v.1.1)) h q refl k
+      ∙ g0 (Exactly mark.Arrow ∷ st) (λ v. k (Some v.0, v.1.1)),
+)) z
 
 pub ruleset steps_map = (gives_map, halts_map, stops_map_0, stops_map_1, memory, reads_ok, reads_err)

@@ -10,14 +10,14 @@ use crate::lists::{held, with_first};
 use crate::mark::Mark;
 use crate::reader::Reader;
 use crate::tails::{AfterName, Joined, Offset, RightSide};
-use crate::tree;
-use crate::{Cmp, Expr, Post, Relation, Set, Sum, SyntaxFault, Unary};
+use crate::{Cmp, Expr, Post, Relation, Set, Sum, SyntaxFault, Unary, tree};
 use cm_model::{Boxed, List, Name, NoMemory, Place};
 use cm_tokens::Token;
 use std::alloc::Global;
 
 impl<'a> Reader<'a> {
     /// An expression.
+    #[cycle(read_expr)]
     #[tactic(auto, using(crate::proofs::ExprSteps::steps_expr))]
     pub fn read_expr(&mut self) -> Result<Expr, SyntaxFault>
         ensures reads { Reads AnExpr (λ x. x) self.old self.new result }
@@ -30,6 +30,7 @@ impl<'a> Reader<'a> {
     }
 
     /// What follows the first comparison of an expression.
+    #[cycle(read_expr)]
     #[tactic(auto, using(crate::proofs::Skips::skip_more_cmps))]
     fn read_joined(&mut self) -> Result<Joined, SyntaxFault>
         ensures reads { Reads MoreCmps (λ x. x) self.old self.new result }
@@ -42,6 +43,7 @@ impl<'a> Reader<'a> {
         }
     }
 
+    #[cycle(read_expr)]
     #[tactic(auto, using(crate::proofs::ExprSteps::steps_and))]
     fn read_and(&mut self) -> Result<Joined, SyntaxFault>
         requires { head self.old.left ≡ Some token.And }
@@ -54,6 +56,7 @@ impl<'a> Reader<'a> {
         Ok(Joined::And(second, more))
     }
 
+    #[cycle(read_expr)]
     #[tactic(auto, using(crate::proofs::ExprSteps::steps_or))]
     fn read_or(&mut self) -> Result<Joined, SyntaxFault>
         requires { head self.old.left ≡ Some token.Or }
@@ -67,6 +70,7 @@ impl<'a> Reader<'a> {
     }
 
     /// Comparisons, each with `and` in front.
+    #[cycle(read_expr)]
     #[tactic(auto, using(crate::proofs::ListSteps::items_ands))]
     fn read_ands(&mut self) -> Result<List<Cmp>, SyntaxFault>
         ensures reads { Reads Ands (λ x. x) self.old self.new result }
@@ -82,6 +86,7 @@ impl<'a> Reader<'a> {
     }
 
     /// Comparisons, each with `or` in front.
+    #[cycle(read_expr)]
     #[tactic(auto, using(crate::proofs::ListSteps::items_ors))]
     fn read_ors(&mut self) -> Result<List<Cmp>, SyntaxFault>
         ensures reads { Reads Ors (λ x. x) self.old self.new result }
@@ -97,6 +102,7 @@ impl<'a> Reader<'a> {
     }
 
     /// A comparison, or what may stand on its side.
+    #[cycle(read_expr)]
     #[tactic(auto, using(crate::proofs::ExprSteps::steps_cmp))]
     fn read_cmp(&mut self) -> Result<Cmp, SyntaxFault>
         ensures reads { Reads ACmp (λ x. x) self.old self.new result }
@@ -109,6 +115,7 @@ impl<'a> Reader<'a> {
     }
 
     /// What follows the left side of a comparison.
+    #[cycle(read_expr)]
     #[tactic(auto, using(crate::proofs::ExprSteps::steps_right, crate::proofs::Skips::skip_right))]
     fn read_right(&mut self) -> Result<RightSide, SyntaxFault>
         ensures reads { Reads Right (λ x. x) self.old self.new result }
@@ -123,6 +130,7 @@ impl<'a> Reader<'a> {
     }
 
     /// A sum with a number, or what may stand on its left.
+    #[cycle(read_expr)]
     #[tactic(auto, using(crate::proofs::ExprSteps::steps_sum))]
     fn read_sum(&mut self) -> Result<Sum, SyntaxFault>
         ensures reads { Reads ASum (λ x. x) self.old self.new result }
@@ -168,6 +176,7 @@ impl<'a> Reader<'a> {
     }
 
     /// A negation, or what may be negated.
+    #[cycle(read_expr)]
     fn read_unary(&mut self) -> Result<Unary, SyntaxFault>
         ensures reads { Reads AUnary (λ x. x) self.old self.new result }
         ensures shorter { IfOk result (λ x. length self.new.left < length self.old.left) }
@@ -178,6 +187,7 @@ impl<'a> Reader<'a> {
         }
     }
 
+    #[cycle(read_expr)]
     #[tactic(auto, using(crate::proofs::ExprSteps::steps_not))]
     fn read_not(&mut self) -> Result<Unary, SyntaxFault>
         requires { head self.old.left ≡ Some token.Not }
@@ -189,6 +199,7 @@ impl<'a> Reader<'a> {
         Ok(Unary::Not { at, of })
     }
 
+    #[cycle(read_expr)]
     #[tactic(auto, using(crate::proofs::ExprSteps::steps_bare))]
     fn read_bare(&mut self) -> Result<Unary, SyntaxFault>
         requires { no_not (head self.old.left) ≡ true }
@@ -201,6 +212,7 @@ impl<'a> Reader<'a> {
     }
 
     /// Something with the fields that are asked of it and the fields that are set.
+    #[cycle(read_expr)]
     #[tactic(auto, using(crate::proofs::ExprSteps::steps_post))]
     fn read_post(&mut self) -> Result<Post, SyntaxFault>
         ensures reads { Reads APost (λ x. x) self.old self.new result }
@@ -234,6 +246,7 @@ impl<'a> Reader<'a> {
     }
 
     /// The word `with` and the fields that are set, or nothing.
+    #[cycle(read_expr)]
     #[tactic(auto, using(crate::proofs::Skips::skip_with))]
     fn read_with(&mut self) -> Result<List<Set>, SyntaxFault>
         ensures reads { Reads With (λ x. x) self.old self.new result }
@@ -245,6 +258,7 @@ impl<'a> Reader<'a> {
         }
     }
 
+    #[cycle(read_expr)]
     #[tactic(auto, using(crate::proofs::ExprSteps::steps_with))]
     fn read_sets(&mut self) -> Result<List<Set>, SyntaxFault>
         requires { head self.old.left ≡ Some token.With }
@@ -261,6 +275,7 @@ impl<'a> Reader<'a> {
     }
 
     /// A field and the value that it is set to.
+    #[cycle(read_expr)]
     #[tactic(auto, using(crate::proofs::ExprSteps::steps_set))]
     fn read_set(&mut self) -> Result<Set, SyntaxFault>
         ensures reads { Reads ASet (λ x. x) self.old self.new result }
@@ -269,11 +284,12 @@ impl<'a> Reader<'a> {
         let at = self.place();
         let field = self.read_name()?;
         self.read_mark(Mark::Colon)?;
-        let value = self.read_stub()?;
+        let value = self.read_expr()?;
         Ok(Set { at, field, value })
     }
 
     /// Fields that are set, each with a comma in front.
+    #[cycle(read_expr)]
     #[tactic(auto, using(crate::proofs::ListSteps::items_more_sets))]
     fn read_more_sets(&mut self) -> Result<List<Set>, SyntaxFault>
         ensures reads { Reads MoreSets (λ x. x) self.old self.new result }
@@ -289,6 +305,7 @@ impl<'a> Reader<'a> {
     }
 
     /// An expression without a sign between its parts.
+    #[cycle(read_expr)]
     #[tactic(auto, using(crate::proofs::Decisions::stuck_a_prim))]
     fn read_prim(&mut self) -> Result<tree::Prim, SyntaxFault>
         ensures reads { Reads APrim (λ x. x) self.old self.new result }
@@ -361,6 +378,7 @@ impl<'a> Reader<'a> {
         Ok(tree::Prim::NoneOf { at, inner })
     }
 
+    #[cycle(read_expr)]
     #[tactic(auto, using(crate::proofs::ExprSteps::steps_some))]
     fn read_some_of(&mut self) -> Result<tree::Prim, SyntaxFault>
         requires { head self.old.left ≡ Some token.Something }
@@ -369,11 +387,12 @@ impl<'a> Reader<'a> {
     {
         let at = self.pass()?;
         self.read_mark(Mark::OpenRound)?;
-        let of = Boxed::new(self.alloc(), self.read_stub()?)?;
+        let of = Boxed::new(self.alloc(), self.read_expr()?)?;
         self.read_mark(Mark::CloseRound)?;
         Ok(tree::Prim::SomeOf { at, of })
     }
 
+    #[cycle(read_expr)]
     #[tactic(auto, using(crate::proofs::ExprSteps::steps_group))]
     fn read_group(&mut self) -> Result<tree::Prim, SyntaxFault>
         requires { head self.old.left ≡ Some token.OpenRound }
@@ -381,11 +400,12 @@ impl<'a> Reader<'a> {
         ensures shorter { IfOk result (λ x. length self.new.left < length self.old.left) }
     {
         let at = self.pass()?;
-        let inner = Boxed::new(self.alloc(), self.read_stub()?)?;
+        let inner = Boxed::new(self.alloc(), self.read_expr()?)?;
         self.read_mark(Mark::CloseRound)?;
         Ok(tree::Prim::Group { at, inner })
     }
 
+    #[cycle(read_expr)]
     #[tactic(auto, using(crate::proofs::ExprSteps::steps_name))]
     fn read_named(&mut self) -> Result<tree::Prim, SyntaxFault>
         requires { starts_name (head self.old.left) ≡ true }
@@ -399,6 +419,7 @@ impl<'a> Reader<'a> {
     }
 
     /// What follows a name in an expression.
+    #[cycle(read_expr)]
     #[tactic(auto, using(crate::proofs::Skips::skip_behind_name))]
     fn read_after_name(&mut self) -> Result<AfterName, SyntaxFault>
         ensures reads { Reads BehindName (λ x. x) self.old self.new result }
@@ -411,6 +432,7 @@ impl<'a> Reader<'a> {
         }
     }
 
+    #[cycle(read_expr)]
     #[tactic(auto, using(crate::proofs::ExprSteps::steps_key))]
     fn read_key(&mut self) -> Result<AfterName, SyntaxFault>
         requires { head self.old.left ≡ Some token.OpenSquare }
@@ -418,11 +440,12 @@ impl<'a> Reader<'a> {
         ensures shorter { IfOk result (λ x. length self.new.left ≤ length self.old.left) }
     {
         self.pass()?;
-        let key = self.read_stub()?;
+        let key = self.read_expr()?;
         let (key, ()) = held(key, self.read_mark(Mark::CloseSquare))?;
         Ok(AfterName::Key(key))
     }
 
+    #[cycle(read_expr)]
     #[tactic(auto, using(crate::proofs::ExprSteps::steps_arguments))]
     fn read_arguments(&mut self) -> Result<AfterName, SyntaxFault>
         requires { head self.old.left ≡ Some token.OpenRound }
@@ -435,6 +458,7 @@ impl<'a> Reader<'a> {
     }
 
     /// Arguments with commas between them, and the bracket that closes them.
+    #[cycle(read_expr)]
     fn read_args(&mut self) -> Result<List<Expr>, SyntaxFault>
         ensures reads { Reads Args (λ x. x) self.old self.new result }
         ensures shorter { IfOk result (λ x. length self.new.left < length self.old.left) }
@@ -455,13 +479,14 @@ impl<'a> Reader<'a> {
         Ok(List::new(self.alloc()))
     }
 
+    #[cycle(read_expr)]
     #[tactic(auto, using(crate::proofs::ExprSteps::steps_some_args))]
     fn read_some_args(&mut self) -> Result<List<Expr>, SyntaxFault>
         requires { no_close_round (head self.old.left) ≡ true }
         ensures reads { Reads Args (λ x. x) self.old self.new result }
         ensures shorter { IfOk result (λ x. length self.new.left < length self.old.left) }
     {
-        let first = self.read_stub()?;
+        let first = self.read_expr()?;
         let (first, more) = held(first, self.read_more_args())?;
         let args = with_first(self.alloc(), first, more)?;
         self.read_mark(Mark::CloseRound)?;
@@ -469,6 +494,7 @@ impl<'a> Reader<'a> {
     }
 
     /// Arguments, each with a comma in front.
+    #[cycle(read_expr)]
     #[tactic(auto, using(crate::proofs::ListSteps::items_more_args))]
     fn read_more_args(&mut self) -> Result<List<Expr>, SyntaxFault>
         ensures reads { Reads MoreArgs (λ x. x) self.old self.new result }
@@ -477,18 +503,10 @@ impl<'a> Reader<'a> {
         let mut more = List::new(self.alloc());
         'items: while let Some(Token::Comma) = self.peek() {
             self.pass()?;
-            let item = self.read_stub()?;
+            let item = self.read_expr()?;
             more.push(item)?;
         }
         Ok(more)
-    }
-
-    #[tactic(auto, using(crate::proofs::Steps::memory))]
-    fn read_stub(&mut self) -> Result<Expr, SyntaxFault>
-        ensures reads { Reads AnExpr (λ x. x) self.old self.new result }
-        ensures shorter { IfOk result (λ x. length self.new.left < length self.old.left) }
-    {
-        Err(SyntaxFault::Memory)
     }
 
     /// How the next token relates two sides.
@@ -551,7 +569,12 @@ fn sum_of(at: Place, left: Unary, offset: Offset) -> Sum
     }
 }
 
-fn after_name(alloc: Global, at: Place, name: Name, after: AfterName) -> Result<tree::Prim, NoMemory>
+fn after_name(
+    alloc: Global,
+    at: Place,
+    name: Name,
+    after: AfterName,
+) -> Result<tree::Prim, NoMemory>
     ensures { IfOk result (λ p. p ≡ Machine.after_name at name after) }
 {
     Ok(match after {

@@ -15,10 +15,7 @@ pub fn with_first<T: Drop>(alloc: Global, first: T, more: List<T>) -> Result<Lis
 }
 
 /// What was read with what is read next; where that fails, what was read is dropped here.
-pub fn held<T: Drop, R>(
-    kept: T,
-    next: Result<R, SyntaxFault>,
-) -> Result<(T, R), SyntaxFault>
+pub fn held<T: Drop, R>(kept: T, next: Result<R, SyntaxFault>) -> Result<(T, R), SyntaxFault>
     ensures ok { IfOk result (λ both. (both.0 ≡ kept) × (next ≡ Ok both.1)) }
     ensures err { IfErr result (λ e. next ≡ Err e) }
 {
