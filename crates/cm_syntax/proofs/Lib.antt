@@ -12,3 +12,4 @@ pub mod ListSteps
 pub mod Complete
 pub mod Laws
 pub mod Exact
+pub mod Whole

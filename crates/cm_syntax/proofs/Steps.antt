@@ -86,3 +86,5 @@ reads_ok s value a b r x e h = subst (Reads s value a b) e h
 
 pub reads_err : {X : Type 0} (s : Symbol) (value : X → ValueOf s) (a b : Ahead) (r : Result X SyntaxFault) (e : SyntaxFault) → r ≡ Err e → Reads s value a b r → Stops s a e
 reads_err s value a b r x e h = subst (Reads s value a b) e h
+
+pub ruleset results = (reads_ok, reads_err, memory)

@@ -58,14 +58,6 @@ no_bracket (Some token.OpenSquare) = false
 no_bracket (Some token.OpenRound) = false
 no_bracket _ = true
 
-abbrev pub no_close_curly : Option Token → Bool
-no_close_curly (Some token.CloseCurly) = false
-no_close_curly _ = true
-
-abbrev pub no_end : Option Token → Bool
-no_end (Some token.End) = false
-no_end _ = true
-
 abbrev pub no_type : Option Token → Bool
 no_type (Some token.Bool) = false
 no_type (Some (token.Name n)) = false

@@ -38,7 +38,7 @@ use Rattle.cm_syntax.specs.declared.fault.SyntaxFault.{SyntaxFault}
 use Rattle.cm_syntax.specs.Spelling.{set_of, post_of, relation_token}
 use Rattle.cm_syntax.specs.Text.{place_of}
 use Rattle.cm_syntax.specs.Machine as m
-use Rattle.cm_syntax.specs.Machine.{Exactly, AName, ANumber, ANum, AType, APart, MoreParts, Params, Internals, MoreNames, Key, Where, ADecl, Decls, ABlock, Stmts, AStmt, Index, Else, AnExpr, MoreCmps, Ands, Ors, ACmp, Right, ASum, AnOffset, AUnary, APost, Fields, With, MoreSets, ASet, APrim, BehindName, Args, MoreArgs, Text, Stack, Values, Shift, Takes, mapped, shift, reading, Ahead, head, Gives, Stops, Passes, Halts, part_of, after_name, sum_of, cmp_of, expr_of, assign_of, if_of, block_of, state_of, tree_of, starts_number, starts_name, starts_num, no_name, no_relation, no_close_round, no_not}
+use Rattle.cm_syntax.specs.Machine.{Exactly, AName, ANumber, ANum, AType, APart, MoreParts, Params, Internals, MoreNames, Key, Where, ADecl, Decls, ABlock, Stmts, AStmt, Index, Else, AnExpr, MoreCmps, Ands, Ors, ACmp, Right, ASum, AnOffset, AUnary, APost, Fields, With, MoreSets, ASet, APrim, BehindName, Args, MoreArgs, Text, Stack, Values, Shift, Takes, mapped, shift, reading, Ahead, head, Gives, Stops, Passes, Halts, part_of, after_name, sum_of, cmp_of, expr_of, assign_of, if_of, block_of, state_of, tree_of, starts_number, starts_name, starts_num, no_name, no_relation, no_close_curly, no_end, no_close_round, no_not}
 use Rattle.cm_syntax.proofs.Steps.{same_read, passes_to, halts_at, stops_by, memory, reads_ok, reads_err}
 
 at_digits : (o : Option Token) (p : Place) (st : Stack) → starts_number o ≡ true → m.num_at o p st ≡ mapped (λ v. (Digits p v.0, v.1)) (m.number_at o (st))

@@ -506,6 +506,14 @@ no_relation (Some token.Greater) = false
 no_relation (Some token.AtLeast) = false
 no_relation _ = true
 
+abbrev pub no_close_curly : Option Token → Bool
+no_close_curly (Some token.CloseCurly) = false
+no_close_curly _ = true
+
+abbrev pub no_end : Option Token → Bool
+no_end (Some token.End) = false
+no_end _ = true
+
 abbrev pub no_close_round : Option Token → Bool
 no_close_round (Some token.CloseRound) = false
 no_close_round _ = true
@@ -562,3 +570,10 @@ PassesOr a b (Err e) = Halts a e
 -- the answer to a whole text
 abbrev pub answer_of : List Placed → Answer
 answer_of text = reading 0 (Text ∷ []) (λ v. v.0) text
+
+-- What is answered to a text by a function of the reader.
+unfoldable pub Answers : List Placed → Result Tree SyntaxFault → Type 0
+Answers text (Ok t) = answer_of text ≡ Ok t
+Answers text (Err fault.Memory) = Unit {0}
+Answers text (Err (fault.Syntax place)) = (left : List Placed) × (place_of left ≡ place) × (answer_of text ≡ Err (Syntax left))
+Answers text (Err (fault.Deep place)) = (left : List Placed) × (place_of left ≡ place) × (answer_of text ≡ Err (Deep left))

@@ -11,9 +11,8 @@ use crate::mark::Mark;
 use crate::reader::Reader;
 use crate::tails::{AfterName, Joined, Offset, RightSide};
 use crate::{Cmp, Expr, Post, Relation, Set, Sum, SyntaxFault, Unary, tree};
-use cm_model::{Boxed, List, Name, NoMemory, Place};
+use cm_model::{Boxed, List, Name, Place};
 use cm_tokens::Token;
-use std::alloc::Global;
 
 impl<'a> Reader<'a> {
     /// An expression.
@@ -27,6 +26,16 @@ impl<'a> Reader<'a> {
         let first = self.read_cmp()?;
         let (first, joined) = held(first, self.read_joined())?;
         Ok(expr_of(at, first, joined))
+    }
+
+    /// An expression, on the heap.
+    #[cycle(read_expr)]
+    #[tactic(auto, using(crate::proofs::Steps::results))]
+    pub fn read_boxed(&mut self) -> Result<Boxed<Expr>, SyntaxFault>
+        ensures reads { Reads AnExpr (λ x. x) self.old self.new result }
+        ensures shorter { IfOk result (λ x. length self.new.left < length self.old.left) }
+    {
+        Ok(Boxed::new(self.alloc(), self.read_expr()?)?)
     }
 
     /// What follows the first comparison of an expression.
@@ -51,8 +60,8 @@ impl<'a> Reader<'a> {
         ensures shorter { IfOk result (λ x. length self.new.left ≤ length self.old.left) }
     {
         self.pass()?;
-        let second = self.read_cmp()?;
-        let (second, more) = held(second, self.read_ands())?;
+        let second = Boxed::new(self.alloc(), self.read_cmp()?)?;
+        let more = self.read_ands()?;
         Ok(Joined::And(second, more))
     }
 
@@ -64,8 +73,8 @@ impl<'a> Reader<'a> {
         ensures shorter { IfOk result (λ x. length self.new.left ≤ length self.old.left) }
     {
         self.pass()?;
-        let second = self.read_cmp()?;
-        let (second, more) = held(second, self.read_ors())?;
+        let second = Boxed::new(self.alloc(), self.read_cmp()?)?;
+        let more = self.read_ors()?;
         Ok(Joined::Or(second, more))
     }
 
@@ -125,7 +134,7 @@ impl<'a> Reader<'a> {
             return Ok(RightSide::Nothing);
         };
         self.pass()?;
-        let right = self.read_sum()?;
+        let right = Boxed::new(self.alloc(), self.read_sum()?)?;
         Ok(RightSide::Related(relation, right))
     }
 
@@ -387,7 +396,7 @@ impl<'a> Reader<'a> {
     {
         let at = self.pass()?;
         self.read_mark(Mark::OpenRound)?;
-        let of = Boxed::new(self.alloc(), self.read_expr()?)?;
+        let of = self.read_boxed()?;
         self.read_mark(Mark::CloseRound)?;
         Ok(tree::Prim::SomeOf { at, of })
     }
@@ -400,7 +409,7 @@ impl<'a> Reader<'a> {
         ensures shorter { IfOk result (λ x. length self.new.left < length self.old.left) }
     {
         let at = self.pass()?;
-        let inner = Boxed::new(self.alloc(), self.read_expr()?)?;
+        let inner = self.read_boxed()?;
         self.read_mark(Mark::CloseRound)?;
         Ok(tree::Prim::Group { at, inner })
     }
@@ -415,7 +424,7 @@ impl<'a> Reader<'a> {
         let at = self.place();
         let name = self.read_name()?;
         let after = self.read_after_name()?;
-        Ok(after_name(self.alloc(), at, name, after)?)
+        Ok(after_name(at, name, after))
     }
 
     /// What follows a name in an expression.
@@ -440,8 +449,8 @@ impl<'a> Reader<'a> {
         ensures shorter { IfOk result (λ x. length self.new.left ≤ length self.old.left) }
     {
         self.pass()?;
-        let key = self.read_expr()?;
-        let (key, ()) = held(key, self.read_mark(Mark::CloseSquare))?;
+        let key = self.read_boxed()?;
+        self.read_mark(Mark::CloseSquare)?;
         Ok(AfterName::Key(key))
     }
 
@@ -569,21 +578,12 @@ fn sum_of(at: Place, left: Unary, offset: Offset) -> Sum
     }
 }
 
-fn after_name(
-    alloc: Global,
-    at: Place,
-    name: Name,
-    after: AfterName,
-) -> Result<tree::Prim, NoMemory>
-    ensures { IfOk result (λ p. p ≡ Machine.after_name at name after) }
+fn after_name(at: Place, name: Name, after: AfterName) -> tree::Prim
+    ensures { result ≡ Machine.after_name at name after }
 {
-    Ok(match after {
+    match after {
         AfterName::Nothing => tree::Prim::Name { at, name },
-        AfterName::Key(key) => tree::Prim::Entry {
-            at,
-            name,
-            key: Boxed::new(alloc, key)?,
-        },
+        AfterName::Key(key) => tree::Prim::Entry { at, name, key },
         AfterName::Args(args) => tree::Prim::Apply { at, name, args },
-    })
+    }
 }

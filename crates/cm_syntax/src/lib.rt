@@ -1,11 +1,13 @@
 //! The tree of a model's text.
 #![tactic(auto)]
 
+mod decl;
 mod expr;
 mod fault;
 mod lists;
 mod mark;
 mod reader;
+mod stmt;
 mod tails;
 mod tree;
 mod types;

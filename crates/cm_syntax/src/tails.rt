@@ -1,14 +1,14 @@
 //! What may follow the first part of a rule, where more may follow or nothing.
 
 use crate::{Cmp, Expr, Relation, Sum};
-use cm_model::List;
+use cm_model::{Boxed, List};
 
 /// What follows a name in an expression.
 #[derive(Drop)]
 pub enum AfterName {
     Nothing,
     /// `[KEY]`
-    Key(Expr),
+    Key(Boxed<Expr>),
     /// `(ARGS)`
     Args(List<Expr>),
 }
@@ -27,7 +27,7 @@ pub enum Offset {
 #[derive(Drop)]
 pub enum RightSide {
     Nothing,
-    Related(Relation, Sum),
+    Related(Relation, Boxed<Sum>),
 }
 
 /// What follows the first comparison of an expression.
@@ -35,7 +35,7 @@ pub enum RightSide {
 pub enum Joined {
     Nothing,
     /// `and SECOND and ..`
-    And(Cmp, List<Cmp>),
+    And(Boxed<Cmp>, List<Cmp>),
     /// `or SECOND or ..`
-    Or(Cmp, List<Cmp>),
+    Or(Boxed<Cmp>, List<Cmp>),
 }

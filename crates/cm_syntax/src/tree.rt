@@ -51,7 +51,7 @@ pub enum Decl {
         at: Place,
         name: Name,
         value: Type,
-        invariant: Expr,
+        invariant: Boxed<Expr>,
     },
     /// `state NAME: map KEY -> VALUE;`
     Map {
@@ -66,7 +66,7 @@ pub enum Decl {
         name: Name,
         key: Type,
         value: Type,
-        invariant: Expr,
+        invariant: Boxed<Expr>,
     },
     /// `fn NAME(PARAMS) -> REPLY BODY`
     Function {
@@ -130,38 +130,38 @@ pub enum Stmt {
     Let {
         at: Place,
         name: Name,
-        value: Expr,
+        value: Boxed<Expr>,
     },
     /// `NAME = VALUE;`
     Assign {
         at: Place,
         name: Name,
-        value: Expr,
+        value: Boxed<Expr>,
     },
     /// `NAME[KEY] = VALUE;`
     AssignAt {
         at: Place,
         name: Name,
-        key: Expr,
-        value: Expr,
+        key: Boxed<Expr>,
+        value: Boxed<Expr>,
     },
     /// `if TEST YES`
     If {
         at: Place,
-        test: Expr,
+        test: Boxed<Expr>,
         yes: Block,
     },
     /// `if TEST YES else OTHER`
     IfElse {
         at: Place,
-        test: Expr,
+        test: Boxed<Expr>,
         yes: Block,
         other: Block,
     },
     /// `case OF { none NOTHING some NAME SOMETHING }`
     Case {
         at: Place,
-        of: Expr,
+        of: Boxed<Expr>,
         nothing: Block,
         name: Name,
         something: Block,
@@ -169,12 +169,12 @@ pub enum Stmt {
     /// `assume TEST;`
     Assume {
         at: Place,
-        test: Expr,
+        test: Boxed<Expr>,
     },
     /// `return VALUE;`
     Return {
         at: Place,
-        value: Expr,
+        value: Boxed<Expr>,
     },
 }
 
@@ -190,14 +190,14 @@ pub enum Expr {
     All {
         at: Place,
         first: Cmp,
-        second: Cmp,
+        second: Boxed<Cmp>,
         more: List<Cmp>,
     },
     /// `FIRST or SECOND or ..`
     Any {
         at: Place,
         first: Cmp,
-        second: Cmp,
+        second: Boxed<Cmp>,
         more: List<Cmp>,
     },
 }
@@ -214,7 +214,7 @@ pub enum Cmp {
         at: Place,
         left: Sum,
         relation: Relation,
-        right: Sum,
+        right: Boxed<Sum>,
     },
 }
 

@@ -116,7 +116,8 @@ impl<'a> Reader<'a> {
     /// Parts, each with a comma in front.
     #[tactic(auto, using(crate::proofs::ListSteps::items_more_parts))]
     pub fn read_more_parts(&mut self) -> Result<List<Part>, SyntaxFault>
-        ensures { Reads MoreParts (λ x. x) self.old self.new result }
+        ensures reads { Reads MoreParts (λ x. x) self.old self.new result }
+        ensures shorter { IfOk result (λ x. length self.new.left ≤ length self.old.left) }
     {
         let mut more = List::new(self.alloc());
         'parts: while let Some(Token::Comma) = self.peek() {
@@ -130,7 +131,8 @@ impl<'a> Reader<'a> {
     /// Parts with commas between them, or none.
     #[tactic(auto, using(crate::proofs::Skips::skip_params))]
     pub fn read_params(&mut self) -> Result<List<Part>, SyntaxFault>
-        ensures { Reads Params (λ x. x) self.old self.new result }
+        ensures reads { Reads Params (λ x. x) self.old self.new result }
+        ensures shorter { IfOk result (λ x. length self.new.left ≤ length self.old.left) }
     {
         match self.peek() {
             Some(Token::Name(_)) => self.read_some_params(),
@@ -141,7 +143,8 @@ impl<'a> Reader<'a> {
     #[tactic(auto, using(crate::proofs::TypeSteps::steps_params))]
     fn read_some_params(&mut self) -> Result<List<Part>, SyntaxFault>
         requires { starts_name (head self.old.left) ≡ true }
-        ensures { Reads Params (λ x. x) self.old self.new result }
+        ensures reads { Reads Params (λ x. x) self.old self.new result }
+        ensures shorter { IfOk result (λ x. length self.new.left ≤ length self.old.left) }
     {
         let first = self.read_part()?;
         let more = self.read_more_parts()?;
@@ -151,7 +154,8 @@ impl<'a> Reader<'a> {
     /// A semicolon, the word `internal` and parts, or nothing.
     #[tactic(auto, using(crate::proofs::Skips::skip_internals))]
     pub fn read_internals(&mut self) -> Result<List<Part>, SyntaxFault>
-        ensures { Reads Internals (λ x. x) self.old self.new result }
+        ensures reads { Reads Internals (λ x. x) self.old self.new result }
+        ensures shorter { IfOk result (λ x. length self.new.left ≤ length self.old.left) }
     {
         match self.peek() {
             Some(Token::Semicolon) => self.read_some_internals(),
@@ -162,7 +166,8 @@ impl<'a> Reader<'a> {
     #[tactic(auto, using(crate::proofs::TypeSteps::steps_internals))]
     fn read_some_internals(&mut self) -> Result<List<Part>, SyntaxFault>
         requires { head self.old.left ≡ Some token.Semicolon }
-        ensures { Reads Internals (λ x. x) self.old self.new result }
+        ensures reads { Reads Internals (λ x. x) self.old self.new result }
+        ensures shorter { IfOk result (λ x. length self.new.left ≤ length self.old.left) }
     {
         self.pass()?;
         self.read_mark(Mark::Internal)?;
@@ -174,7 +179,8 @@ impl<'a> Reader<'a> {
     /// Names, each with a comma in front.
     #[tactic(auto, using(crate::proofs::ListSteps::items_more_names))]
     pub fn read_more_names(&mut self) -> Result<List<Name>, SyntaxFault>
-        ensures { Reads MoreNames (λ x. x) self.old self.new result }
+        ensures reads { Reads MoreNames (λ x. x) self.old self.new result }
+        ensures shorter { IfOk result (λ x. length self.new.left ≤ length self.old.left) }
     {
         let mut more = List::new(self.alloc());
         'names: while let Some(Token::Comma) = self.peek() {

@@ -5,6 +5,9 @@ use Rattle.cm_syntax.proofs.reader.Reader.+read_expr.Given as goal
 abbrev pub decreases-read_expr : goal.decreases-read_expr
 decreases-read_expr l = 10 * length l.self.now.left + 7
 
+abbrev pub decreases-read_boxed : goal.decreases-read_boxed
+decreases-read_boxed l = 10 * length l.self.now.left + 8
+
 abbrev pub decreases-read_joined : goal.decreases-read_joined
 decreases-read_joined l = 10 * length l.self.now.left + 1
 

@@ -1,0 +1,46 @@
+-- From the reader's steps to the answer to a whole text.
+use Rattle.std.proofs.Common.{◌≡◌, ℕ, List, [], ◌∷◌, Result, Ok, Err, refl, sym, ap, ◌∙◌}
+use Rattle.cm_model.specs.declared.place.Place.{Place}
+use Rattle.cm_tokens.specs.declared.token.Placed.{Placed}
+use Rattle.cm_syntax.specs.declared.tree.Tree.{Tree}
+use Rattle.cm_syntax.specs.declared.fault.SyntaxFault.{SyntaxFault}
+use Rattle.cm_syntax.specs.declared.fault.SyntaxFault.TheVariants as fault
+use Rattle.cm_syntax.specs.Text.{place_of, IsRight, GivesAnswer}
+use Rattle.cm_syntax.specs.Machine.{Text, Values, reading, Syntax, Deep, Ahead, Gives, Stops, Answers}
+use Rattle.cm_syntax.proofs.Laws.{tree_reads, syntax_is, deep_is}
+use Rattle.cm_syntax.proofs.Exact.{one_right}
+use Rattle.cm_syntax.proofs.Steps.{reads_ok, reads_err}
+
+nothing_left : (n : ℕ) (k : Values [] → Tree) (ps : List Placed) → ps ≡ [] → reading n [] k ps ≡ Ok (k tt)
+nothing_left n k ps e = ap (reading n [] k) e
+
+more_left : (n : ℕ) (k : Values [] → Tree) (ps : List Placed) (p : Placed) (rest : List Placed) → ps ≡ p ∷ rest → reading n [] k ps ≡ Err (Syntax ps)
+more_left n k ps p rest e = ap (reading n [] k) e ∙ ap (λ l. Err (Syntax l)) (sym e)
+
+pub answers_tree : (a b : Ahead) (t : Tree) → a.opened ≡ 0 → Gives Text a t b → b.left ≡ [] → Answers a.left (Ok t)
+unfolding Answers Gives
+answers_tree a b t z g e = ap (λ n. reading n (Text ∷ []) (λ v. v.0) a.left) (sym z) ∙ g [] (λ v. v.0) ∙ nothing_left b.opened (λ v. t) b.left e
+
+pub answers_more : (a b : Ahead) (t : Tree) (place : Place) → a.opened ≡ 0 → Gives Text a t b → ((p : Placed) × (rest : List Placed) × (b.left ≡ p ∷ rest)) → place_of b.left ≡ place → Answers a.left (Err (fault.Syntax place))
+unfolding Answers Gives
+answers_more a b t place z g m e = (b.left, e, ap (λ n. reading n (Text ∷ []) (λ v. v.0) a.left) (sym z) ∙ g [] (λ v. v.0) ∙ more_left b.opened (λ v. t) b.left m.0 m.1 m.2)
+
+pub answers_fault : (a : Ahead) (e : SyntaxFault) → a.opened ≡ 0 → Stops Text a e → Answers a.left (Err e)
+unfolding Answers Stops
+answers_fault a fault.Memory z h = tt
+answers_fault a (fault.Syntax place) z h = (h.0, h.1, ap (λ n. reading n (Text ∷ []) (λ v. v.0) a.left) (sym z) ∙ h.2 [] (λ v. v.0))
+answers_fault a (fault.Deep place) z h = (h.0, h.1, ap (λ n. reading n (Text ∷ []) (λ v. v.0) a.left) (sym z) ∙ h.2 [] (λ v. v.0))
+
+pub ruleset answers = (answers_tree, answers_more, answers_fault, reads_ok, reads_err)
+
+-- The answer is right.
+pub right_of : (text : List Placed) (r : Result Tree SyntaxFault) → Answers text r → IsRight text r
+unfolding Answers
+right_of text (Ok t) h = tree_reads text t h
+right_of text (Err fault.Memory) h = tt
+right_of text (Err (fault.Syntax place)) h = syntax_is text h.0 place h.2 h.1
+right_of text (Err (fault.Deep place)) h = deep_is text h.0 place h.2 h.1
+
+-- Whatever is right is the answer.
+pub exact_of : (text : List Placed) (r result : Result Tree SyntaxFault) → Answers text result → IsRight text r → GivesAnswer r result
+exact_of text r result h right = one_right text r result right (right_of text result h)
