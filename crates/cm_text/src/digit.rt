@@ -9,13 +9,11 @@ pub fn digit(byte: u8, base: u64) -> Option<u64>
     requires high { base ≤ 16 }
     ensures { MatchOption result (¬ IsDigit base byte) (λ d. IsDigit base byte × (d ≡ digit_value byte)) }
 {
-    // Bytes of neither range get values from 16 on, so that no branch tells the ranges apart.
-    let value = if byte <= b'9' {
-        byte.wrapping_sub(b'0')
-    } else {
-        byte.wrapping_sub(b'a').saturating_add(10)
-    };
-    if u64::from(value) < base {
+    // In base 16 this compiles to no branch between digits and letters: which comes next can't be foreseen.
+    let letter = byte >= b'a';
+    let value = byte.wrapping_sub(if letter { b'a' - 10 } else { b'0' });
+    let below = if letter { base } else { base.min(10) };
+    if u64::from(value) < below {
         Some(u64::from(value))
     } else {
         None

@@ -1,0 +1,61 @@
+-- How reserved words and marks are written.
+use Rattle.std.specs.Prelude.{ℕ, List, [], ◌∷◌, codes}
+use Rattle.cm_tokens.specs.declared.token.Token.{Token}
+use Rattle.cm_tokens.specs.declared.token.Token.TheVariants as token
+
+unfoldable pub reserved_words : List (List ℕ × Token)
+reserved_words =
+    (codes "and", token.And)
+    ∷ (codes "assume", token.Assume)
+    ∷ (codes "bool", token.Bool)
+    ∷ (codes "call", token.Call)
+    ∷ (codes "case", token.Case)
+    ∷ (codes "else", token.Else)
+    ∷ (codes "enum", token.Enum)
+    ∷ (codes "false", token.False)
+    ∷ (codes "fn", token.Fn)
+    ∷ (codes "if", token.If)
+    ∷ (codes "int", token.Int)
+    ∷ (codes "internal", token.Internal)
+    ∷ (codes "it", token.It)
+    ∷ (codes "let", token.Let)
+    ∷ (codes "map", token.Map)
+    ∷ (codes "none", token.Nothing)
+    ∷ (codes "not", token.Not)
+    ∷ (codes "option", token.Option)
+    ∷ (codes "or", token.Or)
+    ∷ (codes "record", token.Record)
+    ∷ (codes "return", token.Return)
+    ∷ (codes "some", token.Something)
+    ∷ (codes "sort", token.Sort)
+    ∷ (codes "state", token.State)
+    ∷ (codes "true", token.True)
+    ∷ (codes "where", token.Where)
+    ∷ (codes "with", token.With)
+    ∷ []
+
+-- a mark stands before those that it begins with
+unfoldable pub marks : List (List ℕ × Token)
+marks =
+    (codes "..", token.DotDot)
+    ∷ (codes "==", token.Equal)
+    ∷ (codes "!=", token.NotEqual)
+    ∷ (codes "<=", token.AtMost)
+    ∷ (codes ">=", token.AtLeast)
+    ∷ (codes "->", token.Arrow)
+    ∷ (codes ";", token.Semicolon)
+    ∷ (codes ":", token.Colon)
+    ∷ (codes ",", token.Comma)
+    ∷ (codes ".", token.Dot)
+    ∷ (codes "(", token.OpenRound)
+    ∷ (codes ")", token.CloseRound)
+    ∷ (codes "[", token.OpenSquare)
+    ∷ (codes "]", token.CloseSquare)
+    ∷ (codes "{", token.OpenCurly)
+    ∷ (codes "}", token.CloseCurly)
+    ∷ (codes "=", token.Assign)
+    ∷ (codes "<", token.Less)
+    ∷ (codes ">", token.Greater)
+    ∷ (codes "+", token.Plus)
+    ∷ (codes "-", token.Minus)
+    ∷ []
