@@ -48,7 +48,7 @@ use Rattle.cm_syntax.specs.Spelling.{names_after, listed, each, num_form, type_f
 use Rattle.cm_syntax.specs.Text.{place_of}
 use Rattle.cm_syntax.specs.Machine as m
 use Rattle.cm_syntax.specs.Machine.{Symbol, Exactly, AName, ANumber, ANum, AType, APart, MoreParts, Params, Internals, MoreNames, Key, Where, ADecl, Decls, ABlock, Stmts, AStmt, Index, Else, AnExpr, MoreCmps, Ands, Ors, ACmp, Right, ASum, AnOffset, AUnary, APost, Fields, With, MoreSets, ASet, APrim, BehindName, Args, MoreArgs, Text, ValueOf, Stack, Values, Shift, Takes, Ends, Fails, mapped, shift, running, ended, moved, Answer, head, part_of, after_name, sum_of, cmp_of, expr_of, assign_of, if_of, block_of, state_of, tree_of, no_close_round, no_close_curly, no_end, no_not}
-use Rattle.cm_syntax.proofs.Tests as test
+use Rattle.cm_syntax.proofs.NextToken as test
 use Rattle.cm_syntax.proofs.ListSteps as lists
 use Rattle.cm_syntax.proofs.Skips as skips
 

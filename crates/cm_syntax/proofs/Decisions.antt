@@ -43,7 +43,7 @@ use Rattle.cm_syntax.proofs.Steps.{stuck, takes_at, passes_to, halts_at}
 use Rattle.cm_tokens.specs.declared.token.Placed.{Placed}
 use Rattle.cm_syntax.specs.declared.mark.Mark.{Mark}
 use Rattle.cm_syntax.specs.declared.fault.SyntaxFault.TheVariants as fault
-use Rattle.cm_syntax.proofs.Tests.{no_comma, no_semicolon, no_map, no_where, no_open_square, no_else, no_joint, no_and, no_or, no_sign, no_dot, no_with, no_bracket, no_type, no_prim, no_open_curly, no_stmt, no_decl, no_num, no_number}
+use Rattle.cm_syntax.proofs.NextToken.{no_comma, no_semicolon, no_map, no_where, no_open_square, no_else, no_joint, no_and, no_or, no_sign, no_dot, no_with, no_bracket, no_type, no_prim, no_open_curly, no_stmt, no_decl, no_num, no_number}
 
 none_a_num_at : (o : Option Token) (p : Place) (st : Stack) → no_num o ≡ true → m.num_at o p st ≡ Fails
 none_a_num_at (Some (token.Number n)) p st h = cc

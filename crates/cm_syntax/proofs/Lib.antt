@@ -5,11 +5,11 @@ pub mod TypeSteps
 pub mod ExprSteps
 pub mod StmtSteps
 pub mod DeclSteps
-pub mod Tests
+pub mod NextToken
 pub mod Skips
 pub mod Decisions
 pub mod ListSteps
 pub mod Complete
 pub mod Laws
 pub mod Exact
-pub mod Whole
+pub mod Answering

@@ -41,7 +41,7 @@ use Rattle.cm_syntax.specs.Machine as m
 use Rattle.cm_syntax.specs.Machine.{Exactly, AName, ANumber, ANum, AType, APart, MoreParts, Params, Internals, MoreNames, Key, Where, ADecl, Decls, ABlock, Stmts, AStmt, Index, Else, AnExpr, MoreCmps, Ands, Ors, ACmp, Right, ASum, AnOffset, AUnary, APost, Fields, With, MoreSets, ASet, APrim, BehindName, Args, MoreArgs, Text, Stack, Values, Shift, Takes, mapped, shift, reading, Ahead, head, Gives, followed_by, Partly, ValueOf, Stops, Passes, Halts, part_of, after_name, sum_of, cmp_of, expr_of, assign_of, if_of, block_of, state_of, tree_of, starts_number, starts_name, starts_num, no_name, no_relation, no_close_curly, no_end, no_close_round, no_not}
 use Rattle.cm_syntax.proofs.Steps.{same_read, passes_to, halts_at, stops_by, memory, reads_ok, reads_err}
 use Rattle.std.proofs.lemmas.List.{append-nil}
-use Rattle.cm_syntax.proofs.Tests.{no_comma, no_semicolon, no_map, no_where, no_open_square, no_else, no_joint, no_and, no_or, no_sign, no_dot, no_with, no_bracket, no_type, no_prim, no_open_curly, no_stmt, no_decl, no_num, no_number}
+use Rattle.cm_syntax.proofs.NextToken.{no_comma, no_semicolon, no_map, no_where, no_open_square, no_else, no_joint, no_and, no_or, no_sign, no_dot, no_with, no_bracket, no_type, no_prim, no_open_curly, no_stmt, no_decl, no_num, no_number}
 use Rattle.cm_syntax.proofs.Skips.{skip_more_parts, skip_more_names, skip_more_sets, skip_more_args, skip_ands, skip_ors, skip_fields}
 
 pub none_more_parts : (a : Ahead) (xs : ValueOf MoreParts) → xs ≡ [] → Partly MoreParts followed_by xs a a

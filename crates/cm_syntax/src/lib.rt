@@ -1,5 +1,16 @@
-//! The tree of a model's text.
+//! The tree of a model's text, read token by token.
+//!
+//! The text is read once, with one token of look-ahead. Each function reads one rule of the grammar
+//! or what may follow a part of one. A function comes back to itself, for an expression, a type or a
+//! block, only behind a bracket that it has passed and that is still open then. At most 64 are open,
+//! and from one to the next at most twelve calls stand one inside another, so the depth of the calls
+//! is bounded whatever the text.
 #![tactic(auto)]
+
+ghost use Rattle.cm_tokens.specs.declared.token.Placed.{Placed};
+ghost use Rattle.cm_syntax.specs.Text.{Reads};
+ghost use Rattle.cm_syntax.specs.declared.tree.Tree.{Tree};
+ghost use Rattle.std.specs.Prelude.{◌≡◌, List};
 
 mod decl;
 mod expr;
@@ -11,8 +22,18 @@ mod stmt;
 mod tails;
 mod tree;
 mod types;
+mod whole;
 
 pub use fault::SyntaxFault;
 pub use tree::{
     Block, Cmp, Decl, Expr, Num, Part, Post, Prim, Relation, Set, Stmt, Sum, Tree, Type, Unary,
 };
+pub use whole::read_tree;
+
+/// A text has at most one tree.
+pub fn one_tree()
+    ensures { (t u : Tree) (text : List Placed) → Reads t text → Reads u text → t ≡ u }
+{}
+
+#[cfg(test)]
+mod tests;

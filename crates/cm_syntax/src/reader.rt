@@ -1,6 +1,7 @@
 //! A reader of tokens that counts the brackets that are open.
 
-ghost use Rattle.std.specs.Prelude.{◌≡◌, ◌∷◌, ◌<◌, ◌≤◌, ◌+◌, [], List, IfOk, IfErr, MatchOption, MatchResult, true, false, length};
+ghost use Rattle.std.specs.Prelude.{◌≡◌, ◌∷◌, ◌-◌, ◌^◌, ◌<◌, ◌≤◌, ◌+◌, [], List, IfOk, IfErr, MatchOption, MatchResult, true, false, length};
+ghost use Rattle.cm_tokens.specs.Listing as Listing;
 ghost use Rattle.cm_tokens.specs.declared.token.Placed.{Placed};
 ghost use Rattle.cm_tokens.specs.declared.token.Token.TheVariants as token;
 ghost use Rattle.cm_model.specs.declared.place.Place.{Place};
@@ -46,6 +47,19 @@ enum Bracket {
 }
 
 impl<'a> Reader<'a> {
+    /// Stands before the first token of a text.
+    pub fn new(alloc: Global, bytes: &'a [u8]) -> Result<Reader<'a>, NoMemory>
+        requires { length bytes.now < 2 ^ 32 - 1 }
+        ensures { IfOk result (λ r. r ≡ record { opened = 0; left = Listing.tokens_of bytes.entry.now }) }
+    {
+        let tokens = Tokens::new(alloc, bytes)?;
+        Ok(Reader {
+            alloc,
+            tokens,
+            opened: 0,
+        })
+    }
+
     /// The next token.
     pub fn peek(&self) -> Option<&Token>
         ensures { MatchOption result (head self.now.left ≡ None) (λ t. head self.now.left ≡ Some t.now) }

@@ -1,29 +1,32 @@
 -- From the reader's steps to the answer to a whole text.
-use Rattle.std.proofs.Common.{◌≡◌, ℕ, List, [], ◌∷◌, Result, Ok, Err, refl, sym, ap, ◌∙◌}
+use Rattle.std.proofs.Common.{◌≡◌, ℕ, List, [], ◌∷◌, Some, None, Result, Ok, Err, refl, sym, ap, ◌∙◌}
 use Rattle.cm_model.specs.declared.place.Place.{Place}
+use Rattle.cm_tokens.specs.declared.token.Token.{Token}
 use Rattle.cm_tokens.specs.declared.token.Placed.{Placed}
 use Rattle.cm_syntax.specs.declared.tree.Tree.{Tree}
 use Rattle.cm_syntax.specs.declared.fault.SyntaxFault.{SyntaxFault}
 use Rattle.cm_syntax.specs.declared.fault.SyntaxFault.TheVariants as fault
 use Rattle.cm_syntax.specs.Text.{place_of, IsRight, GivesAnswer}
-use Rattle.cm_syntax.specs.Machine.{Text, Values, reading, Syntax, Deep, Ahead, Gives, Stops, Answers}
+use Rattle.cm_syntax.specs.Machine.{Text, Values, head, reading, Syntax, Deep, Ahead, Gives, Stops, Answers}
 use Rattle.cm_syntax.proofs.Laws.{tree_reads, syntax_is, deep_is}
 use Rattle.cm_syntax.proofs.Exact.{one_right}
 use Rattle.cm_syntax.proofs.Steps.{reads_ok, reads_err}
 
-nothing_left : (n : ℕ) (k : Values [] → Tree) (ps : List Placed) → ps ≡ [] → reading n [] k ps ≡ Ok (k tt)
-nothing_left n k ps e = ap (reading n [] k) e
+nothing_left : (n : ℕ) (k : Values [] → Tree) (ps : List Placed) → head ps ≡ None → reading n [] k ps ≡ Ok (k tt)
+nothing_left n k [] e = refl
+nothing_left n k (p ∷ ps) e = cc
 
-more_left : (n : ℕ) (k : Values [] → Tree) (ps : List Placed) (p : Placed) (rest : List Placed) → ps ≡ p ∷ rest → reading n [] k ps ≡ Err (Syntax ps)
-more_left n k ps p rest e = ap (reading n [] k) e ∙ ap (λ l. Err (Syntax l)) (sym e)
+more_left : (n : ℕ) (k : Values [] → Tree) (ps : List Placed) (t : Token) → head ps ≡ Some t → reading n [] k ps ≡ Err (Syntax ps)
+more_left n k [] t e = cc
+more_left n k (p ∷ ps) t e = refl
 
-pub answers_tree : (a b : Ahead) (t : Tree) → a.opened ≡ 0 → Gives Text a t b → b.left ≡ [] → Answers a.left (Ok t)
+pub answers_tree : (a b : Ahead) (t : Tree) → a.opened ≡ 0 → Gives Text a t b → head b.left ≡ None → Answers a.left (Ok t)
 unfolding Answers Gives
 answers_tree a b t z g e = ap (λ n. reading n (Text ∷ []) (λ v. v.0) a.left) (sym z) ∙ g [] (λ v. v.0) ∙ nothing_left b.opened (λ v. t) b.left e
 
-pub answers_more : (a b : Ahead) (t : Tree) (place : Place) → a.opened ≡ 0 → Gives Text a t b → ((p : Placed) × (rest : List Placed) × (b.left ≡ p ∷ rest)) → place_of b.left ≡ place → Answers a.left (Err (fault.Syntax place))
+pub answers_more : (a b : Ahead) (t : Tree) (u : Token) → a.opened ≡ 0 → Gives Text a t b → head b.left ≡ Some u → Answers a.left (Err (fault.Syntax (place_of b.left)))
 unfolding Answers Gives
-answers_more a b t place z g m e = (b.left, e, ap (λ n. reading n (Text ∷ []) (λ v. v.0) a.left) (sym z) ∙ g [] (λ v. v.0) ∙ more_left b.opened (λ v. t) b.left m.0 m.1 m.2)
+answers_more a b t u z g e = (b.left, refl, ap (λ n. reading n (Text ∷ []) (λ v. v.0) a.left) (sym z) ∙ g [] (λ v. v.0) ∙ more_left b.opened (λ v. t) b.left u e)
 
 pub answers_fault : (a : Ahead) (e : SyntaxFault) → a.opened ≡ 0 → Stops Text a e → Answers a.left (Err e)
 unfolding Answers Stops
