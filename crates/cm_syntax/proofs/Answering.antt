@@ -34,7 +34,11 @@ answers_fault a fault.Memory z h = tt
 answers_fault a (fault.Syntax place) z h = (h.0, h.1, ap (λ n. reading n (Text ∷ []) (λ v. v.0) a.left) (sym z) ∙ h.2 [] (λ v. v.0))
 answers_fault a (fault.Deep place) z h = (h.0, h.1, ap (λ n. reading n (Text ∷ []) (λ v. v.0) a.left) (sym z) ∙ h.2 [] (λ v. v.0))
 
-pub ruleset answers = (answers_tree, answers_more, answers_fault, reads_ok, reads_err)
+pub answers_memory : (text : List Placed) → Answers text (Err fault.Memory)
+unfolding Answers
+answers_memory text = tt
+
+pub ruleset answers = (answers_tree, answers_more, answers_fault, answers_memory, reads_ok, reads_err)
 
 -- The answer is right.
 pub right_of : (text : List Placed) (r : Result Tree SyntaxFault) → Answers text r → IsRight text r

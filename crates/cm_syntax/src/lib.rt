@@ -7,11 +7,6 @@
 //! is bounded whatever the text.
 #![tactic(auto)]
 
-ghost use Rattle.cm_tokens.specs.declared.token.Placed.{Placed};
-ghost use Rattle.cm_syntax.specs.Text.{Reads};
-ghost use Rattle.cm_syntax.specs.declared.tree.Tree.{Tree};
-ghost use Rattle.std.specs.Prelude.{◌≡◌, List};
-
 mod decl;
 mod expr;
 mod fault;
@@ -28,12 +23,7 @@ pub use fault::SyntaxFault;
 pub use tree::{
     Block, Cmp, Decl, Expr, Num, Part, Post, Prim, Relation, Set, Stmt, Sum, Tree, Type, Unary,
 };
-pub use whole::read_tree;
-
-/// A text has at most one tree.
-pub fn one_tree()
-    ensures { (t u : Tree) (text : List Placed) → Reads t text → Reads u text → t ≡ u }
-{}
+pub use whole::{one_tree, read_tree};
 
 #[cfg(test)]
 mod tests;

@@ -1,8 +1,9 @@
-ghost use Rattle.std.specs.Prelude.{◌≡◌, ◌-◌, ◌^◌, ◌<◌, length, Result, None, Some, IfOk, IfErr};
+ghost use Rattle.std.specs.Prelude.{◌≡◌, ◌-◌, ◌^◌, ◌<◌, List, length, Result, None, Some, IfOk, IfErr};
 ghost use Rattle.cm_tokens.specs.Listing as Listing;
+ghost use Rattle.cm_tokens.specs.declared.token.Placed.{Placed};
 ghost use Rattle.cm_tokens.specs.declared.token.Token.{Token};
 ghost use Rattle.cm_syntax.specs.Text as Text;
-ghost use Rattle.cm_syntax.specs.Text.{IsRight, GivesAnswer};
+ghost use Rattle.cm_syntax.specs.Text.{Reads, IsRight, GivesAnswer};
 ghost use Rattle.cm_syntax.specs.Machine.{Answers, head};
 ghost use Rattle.cm_syntax.specs.declared.tree.Tree.{Tree};
 ghost use Rattle.cm_syntax.specs.declared.fault.SyntaxFault.{SyntaxFault};
@@ -23,6 +24,7 @@ pub fn read_tree(alloc: Global, bytes: &[u8]) -> Result<Tree, SyntaxFault>
     answer(alloc, bytes)
 }
 
+#[tactic(auto, using(crate::proofs::Answering::answers_memory))]
 fn answer(alloc: Global, bytes: &[u8]) -> Result<Tree, SyntaxFault>
     requires { length bytes.now < 2 ^ 32 - 1 }
     ensures { Answers (Listing.tokens_of bytes.now) result }
@@ -51,3 +53,8 @@ fn nothing_left(reader: &Reader) -> Result<(), SyntaxFault>
         Some(_) => Err(reader.stuck()),
     }
 }
+
+/// A text has at most one tree.
+pub fn one_tree()
+    ensures { (t u : Tree) (text : List Placed) → Reads t text → Reads u text → t ≡ u }
+{}
