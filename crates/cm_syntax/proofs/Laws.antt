@@ -11,7 +11,8 @@ use Rattle.cm_syntax.specs.Spelling.{tree_form, tokens_of}
 use Rattle.cm_syntax.specs.Text.{tokens, place_of, place_in, placed_in, Reads, Begins, Stuck, is_shallow, too_deep, open_after, IsSyntaxAt, IsDeepAt}
 use Rattle.cm_syntax.specs.Machine.{Text, Stack, Values, Shift, Takes, Ends, Fails, shift, running, reading, ended, moved, Answer, Stop, Syntax, Deep, answer_of}
 use Rattle.cm_syntax.proofs.Spells.{spelling, some_values, Spells, shift_spells}
-use Rattle.cm_syntax.proofs.Complete.{set_places, text_taken}
+use Rattle.cm_syntax.proofs.Complete.{text_taken}
+use Rattle.cm_syntax.proofs.CompleteExpr.{set_places}
 
 -- Places in a text
 

@@ -9,6 +9,7 @@ pub mod NextToken
 pub mod Skips
 pub mod Decisions
 pub mod ListSteps
+pub mod CompleteExpr
 pub mod Complete
 pub mod Laws
 pub mod Exact

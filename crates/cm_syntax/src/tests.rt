@@ -1,5 +1,5 @@
 use super::*;
-use cm_model::{List, Place};
+use cm_model::{Name, Place};
 use std::alloc::Global;
 use std::test::Fail;
 
@@ -352,6 +352,88 @@ fn each_expression_is_read_as_it_is_written(rt: HostRuntime) -> Result<(), Fail>
     for (kind, name) in kinds.iter().zip(want.iter()) {
         assert_eq!(rt; *kind, (*name, line, 10));
         line = line.saturating_add(1);
+    }
+    Ok(())
+}
+
+// A part of the model of file, pipe and memory calls.
+const FILES: &[u8] = b"// file calls
+sort Pid;
+sort Fd;
+int Off 0..100000;
+enum Err { OK, ENOENT, EBADF }
+record FdKey { p: Pid, fd: Fd }
+record Desc { ino: Ino, off: Off }
+record FdReply { err: Err, fd: option(Fd) }
+state used: map Ino -> bool;
+state fds: map FdKey -> option(Desc);
+fn bind(p: Pid, fd: Fd, d: Desc) -> Fd {
+  case fds[FdKey(p, fd)] {
+    none { }
+    some o { assume false; }
+  }
+  fds[FdKey(p, fd)] = some(d);
+  return fd;
+}
+fn fresh(i: Ino) -> Ino {
+  assume not used[i];
+  used[i] = true;
+  return i;
+}
+call seek(p: Pid, fd: Fd; internal off: Off) -> Err {
+  case fds[FdKey(p, fd)] {
+    none { return EBADF; }
+    some d {
+      if d.off >= off { fds[FdKey(p, fd)] = some(d with { off: Off(off + 1) }); }
+      return OK;
+    }
+  }
+}
+";
+
+#[test]
+fn a_model_of_file_calls_is_read(rt: HostRuntime) -> Result<(), Fail> {
+    let tree = read_tree(rt.alloc(), FILES)?;
+    assert_eq!(rt; (tree.at.line, tree.at.col), (2, 1));
+    assert_eq!(rt; tree.more.len(), 11);
+    Ok(())
+}
+
+#[test]
+fn names_and_numbers_are_those_of_the_text(rt: HostRuntime) -> Result<(), Fail> {
+    let tree = read_tree(rt.alloc(), b"int N -5..70; enum E { a, bc, d }")?;
+    match &tree.first {
+        Decl::Int {
+            name,
+            low: Num::Negative { size: 5, at: low },
+            high: Num::Digits { size: 70, at: high },
+            ..
+        } => {
+            assert_eq!(rt; name.as_str(), "N");
+            assert_eq!(rt; (low.col, high.col), (7, 11));
+        }
+        _ => assert!(rt; false),
+    }
+    match tree.more.as_slice() {
+        [
+            Decl::Enum {
+                name,
+                first,
+                more,
+                ..
+            },
+        ] => {
+            assert_eq!(rt; name.as_str(), "E");
+            assert_eq!(rt; first.as_str(), "a");
+            let names: &[Name] = more.as_slice();
+            match names {
+                [second, third] => {
+                    assert_eq!(rt; (second.as_str(), third.as_str()), ("bc", "d"));
+                }
+                _ => assert!(rt; false),
+            }
+        }
+        _ => assert!(rt; false),
     }
     Ok(())
 }
