@@ -1,0 +1,16 @@
+pub mod Alternatives
+pub mod Spells
+pub mod Steps
+pub mod TypeSteps
+pub mod ExprSteps
+pub mod StmtSteps
+pub mod DeclSteps
+pub mod NextToken
+pub mod Skips
+pub mod Decisions
+pub mod ListSteps
+pub mod CompleteExpr
+pub mod Complete
+pub mod Laws
+pub mod Exact
+pub mod Answering

@@ -1,0 +1,17 @@
+/// A token that may have to come next, whatever stands before it.
+#[derive(Clone, Copy, PartialEq, Eq)]
+pub enum Mark {
+    Semicolon,
+    Colon,
+    DotDot,
+    OpenRound,
+    CloseRound,
+    CloseSquare,
+    OpenCurly,
+    CloseCurly,
+    Assign,
+    Arrow,
+    Nothing,
+    Something,
+    Internal,
+}
