@@ -118,6 +118,20 @@ impl State {
         })
     }
 
+    /// The default of each declared state, in their order.
+    pub fn defaults(&self) -> &[Value]
+        ensures defaults { result.now ≡ self.now.defaults }
+    {
+        self.defaults.as_slice()
+    }
+
+    /// The exceptions, in the order in which their cells were named.
+    pub fn exceptions(&self) -> &[Except]
+        ensures exceptions { result.now ≡ self.now.exceptions }
+    {
+        self.exceptions.as_slice()
+    }
+
     /// The number of exceptions.
     pub fn len(&self) -> usize
         ensures count { result ≡ length self.now.exceptions }

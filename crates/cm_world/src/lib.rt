@@ -6,9 +6,11 @@ mod order;
 mod pair_tests;
 mod path;
 mod states;
+mod typing;
 mod world;
 
 pub use commuting::commutes;
 pub use pair_tests::{PairTests, Tests, TestsEntry};
 pub use path::path_of;
+pub use typing::is_world_of;
 pub use world::World;

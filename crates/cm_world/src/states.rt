@@ -43,8 +43,8 @@ fn agree(model: &Model, cell: &CellName, left: &State, right: &State) -> bool
     same(left.get(cell.state, key), right.get(cell.state, key))
 }
 
-// Whether a cell is one of the model.
-fn is_cell(model: &Model, cell: &CellName) -> bool
+/// Whether a cell is one of the model.
+pub fn is_cell(model: &Model, cell: &CellName) -> bool
     ensures cell { result ≡ is_cell model.now cell.now }
 {
     match model.states().as_slice().get(usize::from(cell.state)) {
