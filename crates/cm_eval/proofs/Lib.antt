@@ -17,3 +17,4 @@ pub mod Reaching
 pub mod Fitting
 pub mod RulesFit
 pub mod Examples
+pub mod Deepest

@@ -1,7 +1,7 @@
 // The deepest functions that the limits allow: each calls the one before it inside as many brackets as may be
 // open at once beside the body's own and the call's.
 ghost use Rattle.std.specs.Prelude.{◌≡◌, ◌≤◌, [], IfOk};
-ghost use Rattle.cm_eval.specs.Limits.{reach_of, stmt_reach, body_reach, funs_reach};
+ghost use Rattle.cm_eval.specs.Limits.{reach_of, body_reach, funs_reach};
 
 use crate::rules::Rules;
 use crate::stmt::call_function;
@@ -25,7 +25,7 @@ fn in_brackets(alloc: Global, e: Expr) -> Result<Expr, NoMemory>
     ensures reach { IfOk result (λ r. reach_of r ≡ reach_of e) }
 {
     let mut whole = e;
-    for _ in 0..BRACKETS {
+    'brackets: for _ in 0..BRACKETS {
         whole = negation(alloc, whole)?;
     }
     Ok(whole)
@@ -45,7 +45,7 @@ fn innermost(alloc: Global, number: u16) -> Expr
 }
 
 fn body(alloc: Global, number: u16) -> Result<List<Stmt>, NoMemory>
-    ensures reach { IfOk result (λ body. body_reach body ≡ 0) }
+    ensures reach { IfOk result (λ body. body_reach body ≤ 65) }
 {
     let e = in_brackets(alloc, innermost(alloc, number))?;
     let mut body = List::new(alloc);
@@ -54,7 +54,7 @@ fn body(alloc: Global, number: u16) -> Result<List<Stmt>, NoMemory>
 }
 
 fn function(alloc: Global, number: u16) -> Result<Call, NoMemory>
-    ensures reach { IfOk result (λ f. body_reach f.body ≡ 0) }
+    ensures reach { IfOk result (λ f. body_reach f.body ≤ 65) }
 {
     let name = Name::from_str(alloc, "f")?;
     let body = body(alloc, number)?;
@@ -68,10 +68,10 @@ fn function(alloc: Global, number: u16) -> Result<Call, NoMemory>
 }
 
 fn functions(alloc: Global) -> Result<List<Call>, NoMemory>
-    ensures reach { IfOk result (λ funs. funs_reach funs ≡ 0) }
+    ensures reach { IfOk result (λ funs. funs_reach funs ≤ 65) }
 {
     let mut funs = List::new(alloc);
-    for number in 0..FUNCTIONS {
+    'functions: for number in 0..FUNCTIONS {
         let f = function(alloc, number)?;
         funs.push(f)?;
     }
@@ -80,7 +80,7 @@ fn functions(alloc: Global) -> Result<List<Call>, NoMemory>
 
 // Whether the last function replies with the value, after one decision for each bracket.
 fn last_replies(alloc: Global, funs: &[Call], v: Value) -> Result<bool, NoMemory>
-    requires reach { funs_reach funs.now ≡ 0 }
+    requires reach { funs_reach funs.now ≤ 65 }
 {
     let rules = Rules {
         alloc,
