@@ -23,5 +23,5 @@ payloads_is_well_typed = record {
   fields = refl;
   cells = simp (fold-sort, fold-option);
   functions = refl;
-  bodies = simp (case-at, fold-case, return-at, fold-return, fold-compare, fold-local, fold-whole, same-sort, same-enum, same-option, out_sort, out_enum, out_option, fold-sort, fold-enum, fold-option);
+  bodies = simp (case-at, fold-case, return-at, fold-return, fold-compare, fold-local, fold-whole, same-sort, same-enum, same-option, out_sort, out_enum, out_option, fold-sort, fold-enum);
 }

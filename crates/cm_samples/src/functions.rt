@@ -19,7 +19,7 @@ pub fn routines(alloc: Global) -> Result<Model, NoMemory>
 {
     let enums = only_bool(alloc)?;
     let states = on_and_out(alloc)?;
-    let funs = marking_and_needing(alloc)?;
+    let funs = routine_funs(alloc)?;
     let calls = routine_calls(alloc)?;
     let sorts = List::new(alloc);
     let ints = List::new(alloc);
@@ -28,7 +28,7 @@ pub fn routines(alloc: Global) -> Result<Model, NoMemory>
     Ok(model)
 }
 
-fn marking_and_needing(alloc: Global) -> Result<List<Call>, NoMemory>
+fn routine_funs(alloc: Global) -> Result<List<Call>, NoMemory>
     ensures exact { IfOk result (λ funs. funs ≡ mark_fun ∷ need_fun ∷ []) }
 {
     let mark = mark_fun(alloc)?;

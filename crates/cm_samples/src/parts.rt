@@ -5,8 +5,8 @@ ghost use Rattle.cm_model.specs.declared.body.Stmt.TheVariants as stmt;
 ghost use Rattle.cm_samples.specs.Parts as parts;
 
 use cm_model::{
-    Boxed, Call, EnumDecl, Expr, IntDecl, List, Name, NoMemory, Op, Part, SetField, StateDecl, Stmt,
-    Ty,
+    Boxed, Call, EnumDecl, Expr, IntDecl, List, Name, NoMemory, Op, Part, SetField, StateDecl,
+    Stmt, Ty,
 };
 use std::alloc::Global;
 
@@ -270,7 +270,7 @@ pub(crate) fn compare(alloc: Global, op: Op, left: Expr, right: Expr) -> Result<
     Ok(Expr::Compare { op, left, right })
 }
 
-/// Two operands that are both true.
+/// Both of two operands are true.
 pub(crate) fn and(alloc: Global, left: Expr, right: Expr) -> Result<Expr, NoMemory>
     ensures exact { IfOk result (λ e. e ≡ expr.All (left ∷ right ∷ [])) }
 {
@@ -278,7 +278,7 @@ pub(crate) fn and(alloc: Global, left: Expr, right: Expr) -> Result<Expr, NoMemo
     Ok(Expr::All(operands))
 }
 
-/// Two operands of which one is true.
+/// One of two operands is true.
 pub(crate) fn or(alloc: Global, left: Expr, right: Expr) -> Result<Expr, NoMemory>
     ensures exact { IfOk result (λ e. e ≡ expr.Any (left ∷ right ∷ [])) }
 {
@@ -286,7 +286,7 @@ pub(crate) fn or(alloc: Global, left: Expr, right: Expr) -> Result<Expr, NoMemor
     Ok(Expr::Any(operands))
 }
 
-/// A function without parameters.
+/// A function on no arguments.
 pub(crate) fn apply(alloc: Global, fun: u16) -> Expr
     ensures exact { result ≡ expr.Apply fun [] }
 {
