@@ -68,6 +68,10 @@ module _ {A B : Type 0} (f : Expr-F A B → A) (g : SetField-F A B → B) where
   pub fold-apply : (i : ℕ) (es : List Expr) → fold-Expr A B f g (expr.Apply i es) ≡ f (Expr-F.Apply i (map (fold-Expr A B f g) es))
   fold-apply i es = ap (fold-Expr A B f g) (sym (expr.rolls-Apply i es)) ∙ fold-roll-Expr A B f g (Expr-F.Apply i es)
 
+  -- a field that is set
+  pub fold-field : (i : ℕ) (e : Expr) → fold-SetField A B f g (record { field = i; value = e }) ≡ g (record { field = i; value = fold-Expr A B f g e })
+  fold-field i e = ap (fold-SetField A B f g) (sym (roll-out-SetField (record { field = i; value = e }))) ∙ fold-roll-SetField A B f g (out-SetField (record { field = i; value = e }))
+
 module _ {A : Type 0} (f : Stmt-F A → A) where
   pub fold-let : (e : Expr) → fold-Stmt A f (stmt.Let e) ≡ f (Stmt-F.Let e)
   fold-let e = ap (fold-Stmt A f) (sym (stmt.rolls-Let e)) ∙ fold-roll-Stmt A f (Stmt-F.Let e)

@@ -3,5 +3,8 @@ pub mod Made
 pub mod TypedCounters
 pub mod TypedFlags
 pub mod TypedRegisters
+pub mod TypedFunctions
+pub mod TypedPoints
+pub mod TypedOptions
 pub mod Meanings
 pub mod ExamplesCompute

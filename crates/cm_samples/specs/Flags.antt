@@ -7,7 +7,7 @@ use Rattle.cm_model.specs.declared.body.Expr.TheVariants as expr
 use Rattle.cm_model.specs.declared.body.Stmt.TheVariants as stmt
 use Rattle.cm_model.specs.declared.body.Stmt.{Stmt}
 use Rattle.cm_model.specs.declared.body.Call.{Call}
-use Rattle.cm_samples.specs.Parts.{bool_enum, bool, truth, cell, map_from, part, routine}
+use Rattle.cm_samples.specs.Parts.{bool_enum, bool, truth, on_and_out, map_from, part, routine}
 
 -- assume not used[d];
 abbrev pub assume_unused : Stmt
@@ -35,7 +35,7 @@ fire_call = routine (codes "fire") [] 0 bool (fire_if_on ∷ stmt.Return truth �
 
 -- state on: bool; state out: bool; and the calls
 unfoldable pub fire_tables : Tables
-fire_tables = tables [] [] (bool_enum ∷ []) [] (cell (codes "on") bool None ∷ cell (codes "out") bool None ∷ []) [] (set_call ∷ fire_call ∷ [])
+fire_tables = tables [] [] (bool_enum ∷ []) [] on_and_out [] (set_call ∷ fire_call ∷ [])
 
 -- not it
 abbrev pub is_unset : Expr

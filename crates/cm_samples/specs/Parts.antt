@@ -4,9 +4,11 @@ use Rattle.cm_model.specs.declared.ty.Ty.{Ty}
 use Rattle.cm_model.specs.declared.ty.Ty.TheVariants as ty
 use Rattle.cm_model.specs.declared.ty.Part.{Part}
 use Rattle.cm_model.specs.declared.ty.EnumDecl.{EnumDecl}
+use Rattle.cm_model.specs.declared.body.Op.TheVariants as op
 use Rattle.cm_model.specs.declared.body.Expr.{Expr}
 use Rattle.cm_model.specs.declared.body.Expr.TheVariants as expr
 use Rattle.cm_model.specs.declared.body.Stmt.{Stmt}
+use Rattle.cm_model.specs.declared.body.Stmt.TheVariants as stmt
 use Rattle.cm_model.specs.declared.body.StateDecl.{StateDecl}
 use Rattle.cm_model.specs.declared.body.Call.{Call}
 
@@ -35,3 +37,11 @@ part n t = record { name = n; ty = t }
 -- a function or call of which so many parameters come from outside
 abbrev pub routine : List ℕ → List Part → ℕ → Ty → List Stmt → Call
 routine n ps outer reply body = record { name = n; params = ps; outer = outer; reply = reply; body = body }
+
+-- state on: bool; state out: bool;
+abbrev pub on_and_out : List StateDecl
+on_and_out = cell (codes "on") bool None ∷ cell (codes "out") bool None ∷ []
+
+-- whether states 0 and 1 are equal, in a call same() -> bool
+abbrev pub same_call : Call
+same_call = routine (codes "same") [] 0 bool (stmt.Return (expr.Compare op.Eq (expr.Cell 0 None) (expr.Cell 1 None)) ∷ [])

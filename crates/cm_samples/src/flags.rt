@@ -1,11 +1,11 @@
-ghost use Rattle.std.specs.Prelude.{◌≡◌, IfOk, [], ◌∷◌, None, codes};
+ghost use Rattle.std.specs.Prelude.{◌≡◌, IfOk, [], ◌∷◌, Some, codes};
 ghost use Rattle.cm_samples.specs.Flags.{open_tables, fire_tables, unset_tables, open_call, set_call, fire_call, mark_call, assume_unused, fire_if_on, is_unset};
 ghost use Rattle.cm_model.specs.declared.ty.Ty.TheVariants as ty;
 ghost use Rattle.cm_samples.specs.Parts as parts;
 
 use crate::parts::{
-    cell, not, one, only_bool, only_map, only_part, read, read_at, routine, set, set_at, sort,
-    three, truth, two,
+    not, on_and_out, one, only_bool, only_map, only_part, read, read_at, routine, set, set_at,
+    sort, three, truth, two,
 };
 use cm_model::{Call, Expr, List, Model, NoMemory, StateDecl, Stmt, Ty};
 use std::alloc::Global;
@@ -32,7 +32,7 @@ pub fn fire(alloc: Global) -> Result<Model, NoMemory>
     ensures tables { IfOk result (λ model. model ≡ fire_tables) }
 {
     let enums = only_bool(alloc)?;
-    let states = fire_states(alloc)?;
+    let states = on_and_out(alloc)?;
     let calls = fire_calls(alloc)?;
     let sorts = List::new(alloc);
     let ints = List::new(alloc);
@@ -77,15 +77,6 @@ fn assume_unused(alloc: Global) -> Result<Stmt, NoMemory>
     let used = read_at(alloc, 0, Expr::Local(0))?;
     let unused = not(alloc, used)?;
     Ok(Stmt::Assume(unused))
-}
-
-fn fire_states(alloc: Global) -> Result<List<StateDecl>, NoMemory>
-    ensures exact { IfOk result (λ states. states ≡ parts.cell (codes "on") parts.bool None ∷ parts.cell (codes "out") parts.bool None ∷ []) }
-{
-    let on = cell(alloc, "on", Ty::Enum(0), None)?;
-    let out = cell(alloc, "out", Ty::Enum(0), None)?;
-    let states = two(alloc, on, out)?;
-    Ok(states)
 }
 
 fn fire_calls(alloc: Global) -> Result<List<Call>, NoMemory>

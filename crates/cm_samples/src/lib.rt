@@ -3,11 +3,17 @@
 
 mod counters;
 mod flags;
+mod functions;
+mod options;
 mod parts;
+mod points;
 mod registers;
 
 pub use counters::{bounded, inc, max, next};
 pub use flags::{fire, open, unset};
+pub use functions::routines;
+pub use options::payloads;
+pub use points::records;
 pub use registers::{map, opt, reg};
 
 #[cfg(test)]

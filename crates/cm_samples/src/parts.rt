@@ -5,7 +5,8 @@ ghost use Rattle.cm_model.specs.declared.body.Stmt.TheVariants as stmt;
 ghost use Rattle.cm_samples.specs.Parts as parts;
 
 use cm_model::{
-    Boxed, Call, EnumDecl, Expr, IntDecl, List, Name, NoMemory, Op, Part, StateDecl, Stmt, Ty,
+    Boxed, Call, EnumDecl, Expr, IntDecl, List, Name, NoMemory, Op, Part, SetField, StateDecl,
+    Stmt, Ty,
 };
 use std::alloc::Global;
 
@@ -41,6 +42,24 @@ pub(crate) fn three<T: Drop>(
     items.push(first)?;
     items.push(second)?;
     items.push(third)?;
+    Ok(items)
+}
+
+/// A list of four items.
+pub(crate) fn four<T: Drop>(
+    alloc: Global,
+    first: T,
+    second: T,
+    third: T,
+    fourth: T,
+) -> Result<List<T>, NoMemory>
+    ensures exact { IfOk result (λ items. items ≡ first ∷ second ∷ third ∷ fourth ∷ []) }
+{
+    let mut items = List::new(alloc);
+    items.push(first)?;
+    items.push(second)?;
+    items.push(third)?;
+    items.push(fourth)?;
     Ok(items)
 }
 
@@ -123,6 +142,16 @@ pub(crate) fn only_cell(
     Ok(states)
 }
 
+/// `state on: bool; state out: bool;`
+pub(crate) fn on_and_out(alloc: Global) -> Result<List<StateDecl>, NoMemory>
+    ensures exact { IfOk result (λ states. states ≡ parts.on_and_out) }
+{
+    let on = cell(alloc, "on", Ty::Enum(0), None)?;
+    let out = cell(alloc, "out", Ty::Enum(0), None)?;
+    let states = two(alloc, on, out)?;
+    Ok(states)
+}
+
 /// A list of one state, which is a map.
 pub(crate) fn only_map(
     alloc: Global,
@@ -163,6 +192,16 @@ pub(crate) fn routine(
         reply,
         body,
     })
+}
+
+/// Whether states 0 and 1 are equal, in a call `same() -> bool`.
+pub(crate) fn same_call(alloc: Global) -> Result<Call, NoMemory>
+    ensures exact { IfOk result (λ call. call ≡ parts.same_call) }
+{
+    let same = compare(alloc, Op::Eq, read(0), read(1))?;
+    let body = one(alloc, Stmt::Return(same))?;
+    let call = routine(alloc, "same", List::new(alloc), 0, Ty::Enum(0), body)?;
+    Ok(call)
 }
 
 /// `true`.
@@ -229,6 +268,47 @@ pub(crate) fn compare(alloc: Global, op: Op, left: Expr, right: Expr) -> Result<
     let left = Boxed::new(alloc, left)?;
     let right = Boxed::new(alloc, right)?;
     Ok(Expr::Compare { op, left, right })
+}
+
+/// Both of two operands are true.
+pub(crate) fn and(alloc: Global, left: Expr, right: Expr) -> Result<Expr, NoMemory>
+    ensures exact { IfOk result (λ e. e ≡ expr.All (left ∷ right ∷ [])) }
+{
+    let operands = two(alloc, left, right)?;
+    Ok(Expr::All(operands))
+}
+
+/// One of two operands is true.
+pub(crate) fn or(alloc: Global, left: Expr, right: Expr) -> Result<Expr, NoMemory>
+    ensures exact { IfOk result (λ e. e ≡ expr.Any (left ∷ right ∷ [])) }
+{
+    let operands = two(alloc, left, right)?;
+    Ok(Expr::Any(operands))
+}
+
+/// A function on no arguments.
+pub(crate) fn apply(alloc: Global, fun: u16) -> Expr
+    ensures exact { result ≡ expr.Apply fun [] }
+{
+    let args = List::new(alloc);
+    Expr::Apply { fun, args }
+}
+
+/// A field of a record.
+pub(crate) fn field(alloc: Global, of: Expr, number: u16) -> Result<Expr, NoMemory>
+    ensures exact { IfOk result (λ e. e ≡ expr.Fields of (number ∷ [])) }
+{
+    let of = Boxed::new(alloc, of)?;
+    let path = one(alloc, number)?;
+    Ok(Expr::Fields { of, path })
+}
+
+/// A record with some fields replaced.
+pub(crate) fn with(alloc: Global, of: Expr, sets: List<SetField>) -> Result<Expr, NoMemory>
+    ensures exact { IfOk result (λ e. e ≡ expr.With of sets) }
+{
+    let of = Boxed::new(alloc, of)?;
+    Ok(Expr::With { of, sets })
 }
 
 /// A write of a state that is one cell.
