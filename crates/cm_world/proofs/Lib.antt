@@ -4,3 +4,4 @@ pub mod Kept
 pub mod Orders
 pub mod Typed
 pub mod Agreeing
+pub mod Uneven

@@ -34,14 +34,15 @@ fn is_state_of(model: &Model, state: &State) -> bool
 fn are_defaults(model: &Model, values: &[Value], states: &[StateDecl]) -> bool
     ensures exact { result ≡ are_values_of model.now (map (λ d. d.value) states.now) values.now }
 {
-    match (values, states) {
-        ([], []) => true,
-        ([value, values @ ..], [state, states @ ..]) => {
-            is_value_of(model, &state.value, value) && are_defaults(model, values, states)
-        }
-        ([], [_, ..]) => false,
-        ([_, ..], []) => false,
+    if values.len() != states.len() {
+        return false;
     }
+    for i in 0..values.len() {
+        if !is_value_of(model, &states[i].value, &values[i]) {
+            return false;
+        }
+    }
+    true
 }
 
 // Whether there is one value for each parameter of a call.
@@ -58,14 +59,15 @@ fn are_arguments(model: &Model, call: u16, values: &[Value]) -> bool
 fn are_values_of(model: &Model, params: &[Part], values: &[Value]) -> bool
     ensures exact { result ≡ are_values_of model.now (map (λ p. p.ty) params.now) values.now }
 {
-    match (values, params) {
-        ([], []) => true,
-        ([value, values @ ..], [param, params @ ..]) => {
-            is_value_of(model, &param.ty, value) && are_values_of(model, params, values)
-        }
-        ([], [_, ..]) => false,
-        ([_, ..], []) => false,
+    if values.len() != params.len() {
+        return false;
     }
+    for i in 0..values.len() {
+        if !is_value_of(model, &params[i].ty, &values[i]) {
+            return false;
+        }
+    }
+    true
 }
 
 // Whether a value is one of a type.
