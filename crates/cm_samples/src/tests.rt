@@ -1,6 +1,7 @@
 mod calls;
 mod definitions;
 mod invariants;
+mod language;
 mod states;
 mod table;
 mod values;

@@ -24,7 +24,7 @@ fn inc_at_3(alloc: Global) -> Result<bool, NoMemory> {
         start: &[held(0, None, Number(3))],
         rows: &[row(0, &[], None, &[2])],
         touched: &[read(0, None)],
-        end: &[held(0, None, Number(3))],
+        end: &[],
     };
     runs(alloc, &model, run)
 }
@@ -36,7 +36,7 @@ fn inc_at_2(alloc: Global) -> Result<bool, NoMemory> {
         start: &[held(0, None, Number(2))],
         rows: &[row(0, &[], DONE, &[1]), row(0, &[], None, &[1, 2])],
         touched: &[written(0, None)],
-        end: &[held(0, None, Number(3))],
+        end: &[],
     };
     runs(alloc, &model, run)
 }
@@ -90,7 +90,7 @@ fn open_one_descriptor_twice(alloc: Global) -> Result<bool, NoMemory> {
             row(0, &[Elem(0)], None, &[0, 1, 0, 0, 1, 0]),
         ],
         touched: &[written(0, Some(0))],
-        end: &[held(0, Some(0), Flag(true))],
+        end: &[],
     };
     runs(alloc, &model, run)
 }
@@ -137,6 +137,7 @@ fn elements(rt: HostRuntime) -> Result<(), Fail> {
     assert!(rt; reg_gets_what_was_put(rt.alloc())?);
     assert!(rt; map_compares_keys_in_the_order_of_first_touch(rt.alloc())?);
     assert!(rt; opt_holds_a_payload(rt.alloc())?);
+    assert!(rt; calls_that_are_not_there_are_blocked(rt.alloc())?);
     Ok(())
 }
 
@@ -172,14 +173,24 @@ fn map_compares_keys_in_the_order_of_first_touch(alloc: Global) -> Result<bool, 
     runs(alloc, &model, run)
 }
 
-/// And a call that is not there is blocked.
 fn opt_holds_a_payload(alloc: Global) -> Result<bool, NoMemory> {
     let model = opt(alloc)?;
     let run = Run {
         start: &[],
-        rows: &[row(0, &[Elem(4)], DONE, &[]), row(1, &[], None, &[])],
+        rows: &[row(0, &[Elem(4)], DONE, &[])],
         touched: &[written(0, None)],
         end: &[held(0, None, SomeElem(4))],
+    };
+    runs(alloc, &model, run)
+}
+
+fn calls_that_are_not_there_are_blocked(alloc: Global) -> Result<bool, NoMemory> {
+    let model = opt(alloc)?;
+    let run = Run {
+        start: &[],
+        rows: &[row(1, &[], None, &[])],
+        touched: &[],
+        end: &[],
     };
     runs(alloc, &model, run)
 }

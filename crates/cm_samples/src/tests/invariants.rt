@@ -33,7 +33,7 @@ fn bounded_at_1(alloc: Global) -> Result<bool, NoMemory> {
             row(0, &[], None, &[0, 1, 1, 1, 2]),
         ],
         touched: &[written(0, None)],
-        end: &[held(0, None, Number(3))],
+        end: &[],
     };
     runs(alloc, &model, run)
 }
@@ -45,7 +45,7 @@ fn bounded_at_3(alloc: Global) -> Result<bool, NoMemory> {
         start: &[held(0, None, Number(3))],
         rows: &[row(0, &[], None, &[2, 0])],
         touched: &[read(0, None)],
-        end: &[held(0, None, Number(3))],
+        end: &[],
     };
     runs(alloc, &model, run)
 }
@@ -62,7 +62,7 @@ fn unset_cells(alloc: Global) -> Result<bool, NoMemory> {
             row(0, &[Elem(1)], None, &[0, 1, 0, 1, 1, 0]),
         ],
         touched: &[written(0, Some(0)), read(0, Some(1))],
-        end: &[held(0, Some(1), Flag(true)), held(0, Some(0), Flag(true))],
+        end: &[],
     };
     runs(alloc, &model, run)
 }

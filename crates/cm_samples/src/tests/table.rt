@@ -10,14 +10,14 @@ use std::alloc::Global;
 
 /// A cell with its value: the number of its state, its key where that one is a map, and the value.
 #[derive(Clone, Copy)]
-pub struct Held {
+pub struct HeldCell {
     state: u16,
     key: Option<u64>,
     value: Given,
 }
 
-pub fn held(state: u16, key: Option<u64>, value: Given) -> Held {
-    Held { state, key, value }
+pub fn held(state: u16, key: Option<u64>, value: Given) -> HeldCell {
+    HeldCell { state, key, value }
 }
 
 /// A cell that was touched, and whether it was written.
@@ -47,15 +47,15 @@ pub fn written(state: u16, key: Option<u64>) -> Touch {
 /// A call, and what is wanted of it: a reply, or none where it is to be blocked, and all decisions since the
 /// first row.
 #[derive(Clone, Copy)]
-pub struct Row<'a> {
+pub struct CalledRow<'a> {
     call: u16,
     args: &'a [Given],
     reply: Option<Given>,
     steps: &'a [u8],
 }
 
-pub fn row<'a>(call: u16, args: &'a [Given], reply: Option<Given>, steps: &'a [u8]) -> Row<'a> {
-    Row {
+pub fn row<'a>(call: u16, args: &'a [Given], reply: Option<Given>, steps: &'a [u8]) -> CalledRow<'a> {
+    CalledRow {
         call,
         args,
         reply,
@@ -64,19 +64,20 @@ pub fn row<'a>(call: u16, args: &'a [Given], reply: Option<Given>, steps: &'a [u
 }
 
 /// Calls that run one after another on one state and one log. All cells are least but those at the start;
-/// those touched and those with exceptions at the end are told in order.
+/// those touched and those with exceptions at the end are told in order. After a blocked call the state is given
+/// up, so the end is not looked at.
 #[derive(Clone, Copy)]
 pub struct Run<'a> {
-    pub start: &'a [Held],
-    pub rows: &'a [Row<'a>],
+    pub start: &'a [HeldCell],
+    pub rows: &'a [CalledRow<'a>],
     pub touched: &'a [Touch],
-    pub end: &'a [Held],
+    pub end: &'a [HeldCell],
 }
 
 /// A world of a pair, its path, and whether it commutes.
 #[derive(Clone, Copy)]
 pub struct Placed<'a> {
-    pub start: &'a [Held],
+    pub start: &'a [HeldCell],
     pub a: &'a [Given],
     pub b: &'a [Given],
     pub path: &'a [u8],
@@ -88,10 +89,18 @@ pub fn runs(alloc: Global, model: &Model, run: Run) -> Result<bool, NoMemory> {
     let mut state = state_of(alloc, model, run.start)?;
     let mut log = Log::new(alloc);
     let right = are_right(alloc, model, run.rows, &mut state, &mut log)?;
-    Ok(right && are_touched(&log, run.touched) && are_held(state.exceptions(), run.end))
+    let ended = ends_blocked(run.rows) || are_held(state.exceptions(), run.end);
+    Ok(right && ended && are_touched(&log, run.touched))
 }
 
-fn state_of(alloc: Global, model: &Model, start: &[Held]) -> Result<State, NoMemory> {
+fn ends_blocked(rows: &[CalledRow]) -> bool {
+    match rows.last() {
+        Some(row) => row.reply.is_none(),
+        None => false,
+    }
+}
+
+fn state_of(alloc: Global, model: &Model, start: &[HeldCell]) -> Result<State, NoMemory> {
     let mut state = State::least(alloc, model)?;
     for cell in start {
         put(alloc, &mut state, *cell)?;
@@ -99,7 +108,7 @@ fn state_of(alloc: Global, model: &Model, start: &[Held]) -> Result<State, NoMem
     Ok(state)
 }
 
-fn put(alloc: Global, state: &mut State, cell: Held) -> Result<(), NoMemory> {
+fn put(alloc: Global, state: &mut State, cell: HeldCell) -> Result<(), NoMemory> {
     let value = value_of(alloc, cell.value)?;
     state.set(cell.state, element(cell.key), value)
 }
@@ -114,7 +123,7 @@ fn element(key: Option<u64>) -> Option<Value> {
 fn are_right(
     alloc: Global,
     model: &Model,
-    rows: &[Row],
+    rows: &[CalledRow],
     state: &mut State,
     log: &mut Log,
 ) -> Result<bool, NoMemory> {
@@ -129,7 +138,7 @@ fn are_right(
 fn is_right(
     alloc: Global,
     model: &Model,
-    row: Row,
+    row: CalledRow,
     state: &mut State,
     log: &mut Log,
 ) -> Result<bool, NoMemory> {
@@ -140,7 +149,7 @@ fn is_right(
 fn outcome_of(
     alloc: Global,
     model: &Model,
-    row: Row,
+    row: CalledRow,
     state: &mut State,
     log: &mut Log,
 ) -> Result<Outcome, NoMemory> {
@@ -177,7 +186,7 @@ fn are_all_touched(cells: &[CellName], written: &[bool], touched: &[Touch]) -> b
     true
 }
 
-fn are_held(exceptions: &[Except], wanted: &[Held]) -> bool {
+fn are_held(exceptions: &[Except], wanted: &[HeldCell]) -> bool {
     if exceptions.len() != wanted.len() {
         return false;
     }

@@ -1,5 +1,5 @@
 // Worlds of pairs: their paths, and whether they commute, worked out by hand.
-use super::table::{Held, Placed, has_path, held, is_world};
+use super::table::{HeldCell, Placed, has_path, held, is_world};
 use super::values::Given;
 use super::values::Given::{Elem, Flag, Number, SomeElem};
 use crate::{bounded, fire, inc, map, max, next, open, opt, unset};
@@ -24,7 +24,7 @@ fn are_told(
     Ok(true)
 }
 
-fn without_arguments<'a>(start: &'a [Held], path: &'a [u8], commutes: bool) -> Placed<'a> {
+fn without_arguments<'a>(start: &'a [HeldCell], path: &'a [u8], commutes: bool) -> Placed<'a> {
     Placed {
         start,
         a: &[],
@@ -251,7 +251,7 @@ fn is_none(
     alloc: Global,
     model: &Model,
     pair: Pair,
-    start: &[Held],
+    start: &[HeldCell],
     a: &[Given],
 ) -> Result<bool, NoMemory> {
     let placed = Placed {
