@@ -5,7 +5,8 @@ use Rattle.cm_eval.specs.State.{store}
 use Rattle.cm_eval.specs.Evaluation.{named}
 use Rattle.cm_eval.specs.Run.{Ended, Stopped, evaluation_of}
 use Rattle.cm_eval.proofs.Examples.{out_elem, out_int, out_tag, elem_compared}
-use Rattle.cm_samples.specs.Examples.{untouched, touches}
+use Rattle.cm_samples.specs.Examples.{untouched, touches, pair, world}
+use Rattle.cm_world.specs.Path.{path_of_world}
 use Rattle.cm_samples.specs.Counters.{inc_tables, next_tables, bounded_tables}
 use Rattle.cm_samples.specs.Flags.{open_tables}
 use Rattle.cm_samples.proofs.Meanings.{means-num, means-tag, means-local, means-whole, means-read, means-shift, means-into, means-compare, means-not, turns-let, turns-set, turns-assume, turns-return, same-elem}
@@ -33,3 +34,11 @@ pub open_unused : evaluation_of open_tables 0 (value.Elem 0 ∷ []) (store (valu
     (touches (named 0 (Some (value.Elem 0))) true) (0 ∷ 1 ∷ 0 ∷ [])
 unfolding open_tables
 open_unused = simp (turns-assume, turns-set, turns-return, means-not, means-read, means-local, means-tag, elem_compared, same-elem, out_elem, out_tag)
+
+pub inc_twice_at_2 : path_of_world inc_tables (pair 0 0) (world (store (value.Int (pos 2) ∷ []) []) [] []) ≡ 1 ∷ 2 ∷ []
+unfolding inc_tables
+inc_twice_at_2 = simp (turns-set, turns-return, means-into, means-shift, means-whole, means-tag, out_int)
+
+pub open_twice : path_of_world open_tables (pair 0 0) (world (store (value.Tag 0 ∷ []) []) (value.Elem 0 ∷ []) (value.Elem 0 ∷ [])) ≡ 0 ∷ 1 ∷ 0 ∷ 0 ∷ 1 ∷ 0 ∷ []
+unfolding open_tables
+open_twice = simp (turns-assume, turns-set, turns-return, means-not, means-read, means-local, means-tag, elem_compared, same-elem, out_elem, out_tag)

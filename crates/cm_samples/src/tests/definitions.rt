@@ -4,7 +4,8 @@ ghost use Rattle.cm_value.specs.declared.value.Value.TheVariants as value;
 ghost use Rattle.cm_eval.specs.State.{Touched, store};
 ghost use Rattle.cm_eval.specs.Evaluation.{named};
 ghost use Rattle.cm_eval.specs.Run.{Ended, Stopped, evaluation_of};
-ghost use Rattle.cm_samples.specs.Examples.{untouched, touches};
+ghost use Rattle.cm_samples.specs.Examples.{untouched, touches, pair, world};
+ghost use Rattle.cm_world.specs.Path.{path_of_world};
 ghost use Rattle.cm_samples.specs.Counters.{inc_tables, bounded_tables, next_tables};
 ghost use Rattle.cm_samples.specs.Flags.{open_tables};
 
@@ -37,6 +38,16 @@ fn open_unused()
         (touches (named 0 (Some (value.Elem 0))) true) (0 ∷ 1 ∷ 0 ∷ []) }
 {}
 
+/// The first increment gives 3 and the second is blocked, so the order ba is not run.
+fn inc_twice_at_2()
+    ensures { path_of_world inc_tables (pair 0 0) (world (store (value.Int (pos 2) ∷ []) []) [] []) ≡ 1 ∷ 2 ∷ [] }
+{}
+
+/// The second call finds the first one's descriptor used: its touch logs 0, `not` 1 and `assume` 0.
+fn open_twice()
+    ensures { path_of_world open_tables (pair 0 0) (world (store (value.Tag 0 ∷ []) []) (value.Elem 0 ∷ []) (value.Elem 0 ∷ [])) ≡ 0 ∷ 1 ∷ 0 ∷ 0 ∷ 1 ∷ 0 ∷ [] }
+{}
+
 #[test]
 fn the_definitions_compute() {
     inc_at_3();
@@ -44,4 +55,6 @@ fn the_definitions_compute() {
     next_at_1();
     bounded_at_3();
     open_unused();
+    inc_twice_at_2();
+    open_twice();
 }
