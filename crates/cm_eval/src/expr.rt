@@ -24,16 +24,16 @@ use cm_value::{Vals, Value, copy_value};
 /// What an expression gives, or `None` where the run is blocked in it.
 #[cycle(evaluate)]
 pub fn evaluate(
-    rules: Rules,
+    rules: &Rules,
     e: &Expr,
     locals: &[Value],
     state: &mut State,
     log: &mut Log,
 ) -> Result<Option<Operand>, NoMemory>
-    requires rules { AreFitting rules }
+    requires rules { AreFitting rules.now }
     requires reach { reach_of e.now ≤ 65 }
     requires locals { IsTrue (are_limited locals.now) }
-    ensures gives { IfOk result (λ r. Gives rules.entry (doing_of rules.entry e.now locals.now) r state.old log.old state.new log.new) }
+    ensures gives { IfOk result (λ r. Gives rules.now (doing_of rules.now e.now locals.now) r state.old log.old state.new log.new) }
     ensures fits { IfOk result (λ r. IfSome r (IsFitting (reach_of e.now))) }
 {
     match e {
@@ -105,7 +105,7 @@ pub fn evaluate(
 }
 
 // A local, if it is there.
-fn local(rules: Rules, i: u16, locals: &[Value]) -> Result<Option<Operand>, NoMemory>
+fn local(rules: &Rules, i: u16, locals: &[Value]) -> Result<Option<Operand>, NoMemory>
     requires locals { IsTrue (are_limited locals.now) }
     ensures value { IfOk result (λ r. r ≡ option_map operand.Plain (slice_get locals.now i)) }
     ensures fits { IfOk result (λ r. IfSome r (IsFitting 0)) }
@@ -122,16 +122,16 @@ fn local(rules: Rules, i: u16, locals: &[Value]) -> Result<Option<Operand>, NoMe
 // A value.
 #[cycle(evaluate)]
 pub fn evaluate_value(
-    rules: Rules,
+    rules: &Rules,
     e: &Expr,
     locals: &[Value],
     state: &mut State,
     log: &mut Log,
 ) -> Result<Option<Value>, NoMemory>
-    requires rules { AreFitting rules }
+    requires rules { AreFitting rules.now }
     requires reach { reach_of e.now ≤ 65 }
     requires locals { IsTrue (are_limited locals.now) }
-    ensures gives { IfOk result (λ r. Gives rules.entry (valued (doing_of rules.entry e.now) locals.now) r state.old log.old state.new log.new) }
+    ensures gives { IfOk result (λ r. Gives rules.now (valued (doing_of rules.now e.now) locals.now) r state.old log.old state.new log.new) }
     ensures limited { IfOk result (λ r. IfSome r (λ v. IsTrue (is_limited v))) }
 {
     match evaluate(rules, e, locals, state, log)? {
@@ -144,16 +144,16 @@ pub fn evaluate_value(
 // A number.
 #[cycle(evaluate)]
 fn evaluate_number(
-    rules: Rules,
+    rules: &Rules,
     e: &Expr,
     locals: &[Value],
     state: &mut State,
     log: &mut Log,
 ) -> Result<Option<i64>, NoMemory>
-    requires rules { AreFitting rules }
+    requires rules { AreFitting rules.now }
     requires reach { reach_of e.now ≤ 65 }
     requires locals { IsTrue (are_limited locals.now) }
-    ensures gives { IfOk result (λ r. Gives rules.entry (numbered (doing_of rules.entry e.now) locals.now) r state.old log.old state.new log.new) }
+    ensures gives { IfOk result (λ r. Gives rules.now (numbered (doing_of rules.now e.now) locals.now) r state.old log.old state.new log.new) }
     ensures near { IfOk result (λ r. IfSome r (IsNear (reach_of e.now))) }
 {
     match evaluate(rules, e, locals, state, log)? {
@@ -165,16 +165,16 @@ fn evaluate_number(
 // A bool that is inspected.
 #[cycle(evaluate)]
 pub fn evaluate_flag(
-    rules: Rules,
+    rules: &Rules,
     e: &Expr,
     locals: &[Value],
     state: &mut State,
     log: &mut Log,
 ) -> Result<Option<bool>, NoMemory>
-    requires rules { AreFitting rules }
+    requires rules { AreFitting rules.now }
     requires reach { reach_of e.now ≤ 65 }
     requires locals { IsTrue (are_limited locals.now) }
-    ensures gives { IfOk result (λ r. Gives rules.entry (inspected (doing_of rules.entry e.now) locals.now) r state.old log.old state.new log.new) }
+    ensures gives { IfOk result (λ r. Gives rules.now (inspected (doing_of rules.now e.now) locals.now) r state.old log.old state.new log.new) }
 {
     match evaluate(rules, e, locals, state, log)? {
         Some(o) => {
@@ -188,17 +188,17 @@ pub fn evaluate_flag(
 // The cell of a map at a key.
 #[cycle(evaluate)]
 pub fn evaluate_cell(
-    rules: Rules,
+    rules: &Rules,
     s: u16,
     e: &Expr,
     locals: &[Value],
     state: &mut State,
     log: &mut Log,
 ) -> Result<Option<CellName>, NoMemory>
-    requires rules { AreFitting rules }
+    requires rules { AreFitting rules.now }
     requires reach { reach_of e.now ≤ 65 }
     requires locals { IsTrue (are_limited locals.now) }
-    ensures gives { IfOk result (λ r. Gives rules.entry (cell_of s (Some (doing_of rules.entry e.now)) locals.now) r state.old log.old state.new log.new) }
+    ensures gives { IfOk result (λ r. Gives rules.now (cell_of s (Some (doing_of rules.now e.now)) locals.now) r state.old log.old state.new log.new) }
 {
     match evaluate_value(rules, e, locals, state, log)? {
         Some(key) => Ok(Some(CellName {
@@ -212,13 +212,13 @@ pub fn evaluate_cell(
 // A state that is one cell.
 #[cycle(evaluate)]
 fn read_cell(
-    rules: Rules,
+    rules: &Rules,
     s: u16,
     state: &State,
     log: &mut Log,
 ) -> Result<Option<Operand>, NoMemory>
-    requires rules { AreFitting rules }
-    ensures gives { IfOk result (λ r. Gives rules.entry (read_of s None []) r state.now log.old state.now log.new) }
+    requires rules { AreFitting rules.now }
+    ensures gives { IfOk result (λ r. Gives rules.now (read_of s None []) r state.now log.old state.now log.new) }
     ensures fits { IfOk result (λ r. IfSome r (IsFitting 0)) }
 {
     let cell = CellName {
@@ -234,17 +234,17 @@ fn read_cell(
 // A map at a key.
 #[cycle(evaluate)]
 fn evaluate_read(
-    rules: Rules,
+    rules: &Rules,
     s: u16,
     e: &Expr,
     locals: &[Value],
     state: &mut State,
     log: &mut Log,
 ) -> Result<Option<Operand>, NoMemory>
-    requires rules { AreFitting rules }
+    requires rules { AreFitting rules.now }
     requires reach { reach_of e.now ≤ 65 }
     requires locals { IsTrue (are_limited locals.now) }
-    ensures gives { IfOk result (λ r. Gives rules.entry (read_of s (Some (doing_of rules.entry e.now)) locals.now) r state.old log.old state.new log.new) }
+    ensures gives { IfOk result (λ r. Gives rules.now (read_of s (Some (doing_of rules.now e.now)) locals.now) r state.old log.old state.new log.new) }
     ensures fits { IfOk result (λ r. IfSome r (IsFitting (reach_of e.now))) }
 {
     match evaluate_cell(rules, s, e, locals, state, log)? {
@@ -259,17 +259,17 @@ fn evaluate_read(
 // A field of a field and so on.
 #[cycle(evaluate)]
 fn evaluate_fields(
-    rules: Rules,
+    rules: &Rules,
     e: &Expr,
     path: &[u16],
     locals: &[Value],
     state: &mut State,
     log: &mut Log,
 ) -> Result<Option<Operand>, NoMemory>
-    requires rules { AreFitting rules }
+    requires rules { AreFitting rules.now }
     requires reach { reach_of e.now ≤ 65 }
     requires locals { IsTrue (are_limited locals.now) }
-    ensures gives { IfOk result (λ r. Gives rules.entry (fields_of (doing_of rules.entry e.now) path.now locals.now) r state.old log.old state.new log.new) }
+    ensures gives { IfOk result (λ r. Gives rules.now (fields_of (doing_of rules.now e.now) path.now locals.now) r state.old log.old state.new log.new) }
     ensures fits { IfOk result (λ r. IfSome r (IsFitting (reach_of e.now))) }
 {
     match evaluate_value(rules, e, locals, state, log)? {
@@ -284,18 +284,18 @@ fn evaluate_fields(
 // A record with some fields replaced.
 #[cycle(evaluate)]
 fn evaluate_with(
-    rules: Rules,
+    rules: &Rules,
     sets: &[SetField],
     of: Value,
     locals: &[Value],
     state: &mut State,
     log: &mut Log,
 ) -> Result<Option<Operand>, NoMemory>
-    requires rules { AreFitting rules }
+    requires rules { AreFitting rules.now }
     requires of { IsTrue (is_limited of) }
     requires reach { sets_reach sets.now ≤ 65 }
     requires locals { IsTrue (are_limited locals.now) }
-    ensures gives { IfOk result (λ r. Gives rules.entry (replaced_of of (sets_in rules.entry sets.now) locals.now) r state.old log.old state.new log.new) }
+    ensures gives { IfOk result (λ r. Gives rules.now (replaced_of of (sets_in rules.now sets.now) locals.now) r state.old log.old state.new log.new) }
     ensures fits { IfOk result (λ r. IfSome r (IsFitting (sets_reach sets.now))) }
 {
     match evaluate_sets(rules, sets, of, locals, state, log)? {
@@ -307,18 +307,18 @@ fn evaluate_with(
 // The new values of fields, each put into the record.
 #[cycle(evaluate)]
 fn evaluate_sets(
-    rules: Rules,
+    rules: &Rules,
     sets: &[SetField],
     of: Value,
     locals: &[Value],
     state: &mut State,
     log: &mut Log,
 ) -> Result<Option<Value>, NoMemory>
-    requires rules { AreFitting rules }
+    requires rules { AreFitting rules.now }
     requires of { IsTrue (is_limited of) }
     requires reach { sets_reach sets.now ≤ 65 }
     requires locals { IsTrue (are_limited locals.now) }
-    ensures gives { IfOk result (λ r. Gives rules.entry (sets_of of (sets_in rules.entry sets.now) locals.now) r state.old log.old state.new log.new) }
+    ensures gives { IfOk result (λ r. Gives rules.now (sets_of of (sets_in rules.now sets.now) locals.now) r state.old log.old state.new log.new) }
     ensures limited { IfOk result (λ r. IfSome r (λ v. IsTrue (is_limited v))) }
 {
     let mut record = of;
@@ -337,16 +337,16 @@ fn evaluate_sets(
 // Values in order.
 #[cycle(evaluate)]
 fn evaluate_values(
-    rules: Rules,
+    rules: &Rules,
     es: &[Expr],
     locals: &[Value],
     state: &mut State,
     log: &mut Log,
 ) -> Result<Option<Vals>, NoMemory>
-    requires rules { AreFitting rules }
+    requires rules { AreFitting rules.now }
     requires reach { exprs_reach es.now ≤ 65 }
     requires locals { IsTrue (are_limited locals.now) }
-    ensures gives { IfOk result (λ r. Gives rules.entry (values_of [] (map (doing_of rules.entry) es.now) locals.now) r state.old log.old state.new log.new) }
+    ensures gives { IfOk result (λ r. Gives rules.now (values_of [] (map (doing_of rules.now) es.now) locals.now) r state.old log.old state.new log.new) }
     ensures limited { IfOk result (λ r. IfSome r (λ vs. IsTrue (are_limited vs))) }
 {
     let mut values = List::new(rules.alloc);
@@ -362,16 +362,16 @@ fn evaluate_values(
 // A record.
 #[cycle(evaluate)]
 fn evaluate_make(
-    rules: Rules,
+    rules: &Rules,
     es: &[Expr],
     locals: &[Value],
     state: &mut State,
     log: &mut Log,
 ) -> Result<Option<Operand>, NoMemory>
-    requires rules { AreFitting rules }
+    requires rules { AreFitting rules.now }
     requires reach { exprs_reach es.now ≤ 65 }
     requires locals { IsTrue (are_limited locals.now) }
-    ensures gives { IfOk result (λ r. Gives rules.entry (make_of (map (doing_of rules.entry) es.now) locals.now) r state.old log.old state.new log.new) }
+    ensures gives { IfOk result (λ r. Gives rules.now (make_of (map (doing_of rules.now) es.now) locals.now) r state.old log.old state.new log.new) }
     ensures fits { IfOk result (λ r. IfSome r (IsFitting (exprs_reach es.now))) }
 {
     match evaluate_values(rules, es, locals, state, log)? {
@@ -383,16 +383,16 @@ fn evaluate_make(
 // An option with a payload.
 #[cycle(evaluate)]
 fn evaluate_some(
-    rules: Rules,
+    rules: &Rules,
     e: &Expr,
     locals: &[Value],
     state: &mut State,
     log: &mut Log,
 ) -> Result<Option<Operand>, NoMemory>
-    requires rules { AreFitting rules }
+    requires rules { AreFitting rules.now }
     requires reach { reach_of e.now ≤ 65 }
     requires locals { IsTrue (are_limited locals.now) }
-    ensures gives { IfOk result (λ r. Gives rules.entry (some_of (doing_of rules.entry e.now) locals.now) r state.old log.old state.new log.new) }
+    ensures gives { IfOk result (λ r. Gives rules.now (some_of (doing_of rules.now e.now) locals.now) r state.old log.old state.new log.new) }
     ensures fits { IfOk result (λ r. IfSome r (IsFitting (reach_of e.now))) }
 {
     match evaluate_value(rules, e, locals, state, log)? {
@@ -407,18 +407,18 @@ fn evaluate_some(
 // A sum.
 #[cycle(evaluate)]
 fn evaluate_shift(
-    rules: Rules,
+    rules: &Rules,
     e: &Expr,
     by: i64,
     locals: &[Value],
     state: &mut State,
     log: &mut Log,
 ) -> Result<Option<Operand>, NoMemory>
-    requires rules { AreFitting rules }
+    requires rules { AreFitting rules.now }
     requires reach { 1 + reach_of e.now ≤ 65 }
     requires by { IsTrue (is_number by) }
     requires locals { IsTrue (are_limited locals.now) }
-    ensures gives { IfOk result (λ r. Gives rules.entry (shift_of (doing_of rules.entry e.now) by locals.now) r state.old log.old state.new log.new) }
+    ensures gives { IfOk result (λ r. Gives rules.now (shift_of (doing_of rules.now e.now) by locals.now) r state.old log.old state.new log.new) }
     ensures fits { IfOk result (λ r. IfSome r (IsFitting (1 + reach_of e.now))) }
 {
     match evaluate_number(rules, e, locals, state, log)? {
@@ -430,17 +430,17 @@ fn evaluate_shift(
 // A number as one of an integer type.
 #[cycle(evaluate)]
 fn evaluate_into(
-    rules: Rules,
+    rules: &Rules,
     e: &Expr,
     int: u16,
     locals: &[Value],
     state: &mut State,
     log: &mut Log,
 ) -> Result<Option<Operand>, NoMemory>
-    requires rules { AreFitting rules }
+    requires rules { AreFitting rules.now }
     requires reach { reach_of e.now ≤ 65 }
     requires locals { IsTrue (are_limited locals.now) }
-    ensures gives { IfOk result (λ r. Gives rules.entry (into_of (slice_get rules.entry.ints.now int) (doing_of rules.entry e.now) locals.now) r state.old log.old state.new log.new) }
+    ensures gives { IfOk result (λ r. Gives rules.now (into_of (slice_get rules.now.ints.now int) (doing_of rules.now e.now) locals.now) r state.old log.old state.new log.new) }
     ensures fits { IfOk result (λ r. IfSome r (IsFitting (reach_of e.now))) }
 {
     match evaluate_number(rules, e, locals, state, log)? {
@@ -455,7 +455,7 @@ fn evaluate_into(
 // A comparison.
 #[cycle(evaluate)]
 fn evaluate_compare(
-    rules: Rules,
+    rules: &Rules,
     left: &Expr,
     right: &Expr,
     op: Op,
@@ -463,10 +463,10 @@ fn evaluate_compare(
     state: &mut State,
     log: &mut Log,
 ) -> Result<Option<Operand>, NoMemory>
-    requires rules { AreFitting rules }
+    requires rules { AreFitting rules.now }
     requires reach { max (reach_of left.now) (reach_of right.now) ≤ 65 }
     requires locals { IsTrue (are_limited locals.now) }
-    ensures gives { IfOk result (λ r. Gives rules.entry (compare_of op (doing_of rules.entry left.now) (doing_of rules.entry right.now) locals.now) r state.old log.old state.new log.new) }
+    ensures gives { IfOk result (λ r. Gives rules.now (compare_of op (doing_of rules.now left.now) (doing_of rules.now right.now) locals.now) r state.old log.old state.new log.new) }
     ensures fits { IfOk result (λ r. IfSome r (IsFitting (max (reach_of left.now) (reach_of right.now)))) }
 {
     match evaluate(rules, left, locals, state, log)? {
@@ -484,16 +484,16 @@ fn evaluate_compare(
 // Operands in order until one is false.
 #[cycle(evaluate)]
 fn evaluate_all(
-    rules: Rules,
+    rules: &Rules,
     es: &[Expr],
     locals: &[Value],
     state: &mut State,
     log: &mut Log,
 ) -> Result<Option<bool>, NoMemory>
-    requires rules { AreFitting rules }
+    requires rules { AreFitting rules.now }
     requires reach { exprs_reach es.now ≤ 65 }
     requires locals { IsTrue (are_limited locals.now) }
-    ensures gives { IfOk result (λ r. Gives rules.entry (all_of (map (doing_of rules.entry) es.now) locals.now) r state.old log.old state.new log.new) }
+    ensures gives { IfOk result (λ r. Gives rules.now (all_of (map (doing_of rules.now) es.now) locals.now) r state.old log.old state.new log.new) }
 {
     for e in es {
         match evaluate_flag(rules, e, locals, state, log)? {
@@ -508,16 +508,16 @@ fn evaluate_all(
 // Operands in order until one is true.
 #[cycle(evaluate)]
 fn evaluate_any(
-    rules: Rules,
+    rules: &Rules,
     es: &[Expr],
     locals: &[Value],
     state: &mut State,
     log: &mut Log,
 ) -> Result<Option<bool>, NoMemory>
-    requires rules { AreFitting rules }
+    requires rules { AreFitting rules.now }
     requires reach { exprs_reach es.now ≤ 65 }
     requires locals { IsTrue (are_limited locals.now) }
-    ensures gives { IfOk result (λ r. Gives rules.entry (any_of (map (doing_of rules.entry) es.now) locals.now) r state.old log.old state.new log.new) }
+    ensures gives { IfOk result (λ r. Gives rules.now (any_of (map (doing_of rules.now) es.now) locals.now) r state.old log.old state.new log.new) }
 {
     for e in es {
         match evaluate_flag(rules, e, locals, state, log)? {
@@ -532,16 +532,16 @@ fn evaluate_any(
 // Negation.
 #[cycle(evaluate)]
 fn evaluate_not(
-    rules: Rules,
+    rules: &Rules,
     e: &Expr,
     locals: &[Value],
     state: &mut State,
     log: &mut Log,
 ) -> Result<Option<Operand>, NoMemory>
-    requires rules { AreFitting rules }
+    requires rules { AreFitting rules.now }
     requires reach { reach_of e.now ≤ 65 }
     requires locals { IsTrue (are_limited locals.now) }
-    ensures gives { IfOk result (λ r. Gives rules.entry (not_of (doing_of rules.entry e.now) locals.now) r state.old log.old state.new log.new) }
+    ensures gives { IfOk result (λ r. Gives rules.now (not_of (doing_of rules.now e.now) locals.now) r state.old log.old state.new log.new) }
     ensures fits { IfOk result (λ r. IfSome r (IsFitting (reach_of e.now))) }
 {
     match evaluate_flag(rules, e, locals, state, log)? {
@@ -553,17 +553,17 @@ fn evaluate_not(
 // A function on its arguments.
 #[cycle(evaluate)]
 fn evaluate_apply(
-    rules: Rules,
+    rules: &Rules,
     es: &[Expr],
     fun: u16,
     locals: &[Value],
     state: &mut State,
     log: &mut Log,
 ) -> Result<Option<Operand>, NoMemory>
-    requires rules { AreFitting rules }
+    requires rules { AreFitting rules.now }
     requires reach { exprs_reach es.now ≤ 65 }
     requires locals { IsTrue (are_limited locals.now) }
-    ensures gives { IfOk result (λ r. Gives rules.entry (apply_of (fun_at (funs_of rules.entry) fun) (map (doing_of rules.entry) es.now) locals.now) r state.old log.old state.new log.new) }
+    ensures gives { IfOk result (λ r. Gives rules.now (apply_of (fun_at (funs_of rules.now) fun) (map (doing_of rules.now) es.now) locals.now) r state.old log.old state.new log.new) }
     ensures fits { IfOk result (λ r. IfSome r (IsFitting (exprs_reach es.now))) }
 {
     match evaluate_values(rules, es, locals, state, log)? {

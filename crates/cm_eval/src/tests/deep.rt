@@ -90,7 +90,7 @@ fn last_replies(alloc: Global, funs: &[Call], v: Value) -> Result<bool, NoMemory
     };
     let mut state = State::empty(alloc);
     let mut log = Log::new(alloc);
-    match call_function(rules, FUNCTIONS - 1, List::new(alloc), &mut state, &mut log)? {
+    match call_function(&rules, FUNCTIONS - 1, List::new(alloc), &mut state, &mut log)? {
         Some(reply) => Ok(same(&reply, &v)
             && log.steps.len() == usize::from(FUNCTIONS) * usize::from(BRACKETS)),
         None => Ok(false),
