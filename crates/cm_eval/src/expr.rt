@@ -39,52 +39,37 @@ pub fn evaluate(
     match e {
         Expr::Num(n) => Ok(Some(Operand::Number(*n))),
         Expr::Tag { ty: _, index } => Ok(Some(Operand::Plain(Value::Tag(*index)))),
-        Expr::Local(i) => {
-            let r = local(rules, *i, locals)?;
-            Ok(r)
-        }
+        Expr::Local(i) => local(rules, *i, locals),
         Expr::Cell { state: s, key } => match key {
-            Some(key) => {
-                let r = evaluate_read(rules, *s, key.get(), locals, state, log)?;
-                Ok(r)
-            }
-            None => {
-                let r = read_cell(rules, *s, state, log)?;
-                Ok(r)
-            }
+            Some(key) => evaluate_read(rules, *s, key.get(), locals, state, log),
+            None => read_cell(rules, *s, state, log),
         },
-        Expr::Fields { of, path } => {
-            let r = evaluate_fields(rules, of.get(), path.as_slice(), locals, state, log)?;
-            Ok(r)
-        }
+        Expr::Fields { of, path } => evaluate_fields(
+            rules,
+            of.get(),
+            path.as_slice(),
+            locals,
+            state,
+            log,
+        ),
         Expr::With { of, sets } => match evaluate_value(rules, of.get(), locals, state, log)? {
-            Some(v) => {
-                let r = evaluate_with(rules, sets.as_slice(), v, locals, state, log)?;
-                Ok(r)
-            }
+            Some(v) => evaluate_with(rules, sets.as_slice(), v, locals, state, log),
             None => Ok(None),
         },
-        Expr::Make { rec: _, parts } => {
-            let r = evaluate_make(rules, parts.as_slice(), locals, state, log)?;
-            Ok(r)
-        }
+        Expr::Make { rec: _, parts } => evaluate_make(rules, parts.as_slice(), locals, state, log),
         Expr::NoneOf(_) => Ok(Some(Operand::Plain(Value::None))),
-        Expr::SomeOf(of) => {
-            let r = evaluate_some(rules, of.get(), locals, state, log)?;
-            Ok(r)
-        }
-        Expr::Shift { of, by } => {
-            let r = evaluate_shift(rules, of.get(), *by, locals, state, log)?;
-            Ok(r)
-        }
-        Expr::Into { int, of } => {
-            let r = evaluate_into(rules, of.get(), *int, locals, state, log)?;
-            Ok(r)
-        }
-        Expr::Compare { op, left, right } => {
-            let r = evaluate_compare(rules, left.get(), right.get(), *op, locals, state, log)?;
-            Ok(r)
-        }
+        Expr::SomeOf(of) => evaluate_some(rules, of.get(), locals, state, log),
+        Expr::Shift { of, by } => evaluate_shift(rules, of.get(), *by, locals, state, log),
+        Expr::Into { int, of } => evaluate_into(rules, of.get(), *int, locals, state, log),
+        Expr::Compare { op, left, right } => evaluate_compare(
+            rules,
+            left.get(),
+            right.get(),
+            *op,
+            locals,
+            state,
+            log,
+        ),
         Expr::All(es) => {
             let r = evaluate_all(rules, es.as_slice(), locals, state, log)?;
             Ok(as_flag(r))
@@ -93,18 +78,20 @@ pub fn evaluate(
             let r = evaluate_any(rules, es.as_slice(), locals, state, log)?;
             Ok(as_flag(r))
         }
-        Expr::Not(of) => {
-            let r = evaluate_not(rules, of.get(), locals, state, log)?;
-            Ok(r)
-        }
-        Expr::Apply { fun, args } => {
-            let r = evaluate_apply(rules, args.as_slice(), *fun, locals, state, log)?;
-            Ok(r)
-        }
+        Expr::Not(of) => evaluate_not(rules, of.get(), locals, state, log),
+        Expr::Apply { fun, args } => evaluate_apply(
+            rules,
+            args.as_slice(),
+            *fun,
+            locals,
+            state,
+            log,
+        ),
     }
 }
 
 // A local, if it is there.
+#[inline(never)]
 fn local(rules: &Rules, i: u16, locals: &[Value]) -> Result<Option<Operand>, NoMemory>
     requires locals { IsTrue (are_limited locals.now) }
     ensures value { IfOk result (λ r. r ≡ option_map operand.Plain (slice_get locals.now i)) }
@@ -211,6 +198,7 @@ pub fn evaluate_cell(
 
 // A state that is one cell.
 #[cycle(evaluate)]
+#[inline(never)]
 fn read_cell(
     rules: &Rules,
     s: u16,
@@ -233,6 +221,7 @@ fn read_cell(
 
 // A map at a key.
 #[cycle(evaluate)]
+#[inline(never)]
 fn evaluate_read(
     rules: &Rules,
     s: u16,
@@ -258,6 +247,7 @@ fn evaluate_read(
 
 // A field of a field and so on.
 #[cycle(evaluate)]
+#[inline(never)]
 fn evaluate_fields(
     rules: &Rules,
     e: &Expr,
@@ -283,6 +273,7 @@ fn evaluate_fields(
 
 // A record with some fields replaced.
 #[cycle(evaluate)]
+#[inline(never)]
 fn evaluate_with(
     rules: &Rules,
     sets: &[SetField],
@@ -361,6 +352,7 @@ fn evaluate_values(
 
 // A record.
 #[cycle(evaluate)]
+#[inline(never)]
 fn evaluate_make(
     rules: &Rules,
     es: &[Expr],
@@ -382,6 +374,7 @@ fn evaluate_make(
 
 // An option with a payload.
 #[cycle(evaluate)]
+#[inline(never)]
 fn evaluate_some(
     rules: &Rules,
     e: &Expr,
@@ -406,6 +399,7 @@ fn evaluate_some(
 
 // A sum.
 #[cycle(evaluate)]
+#[inline(never)]
 fn evaluate_shift(
     rules: &Rules,
     e: &Expr,
@@ -429,6 +423,7 @@ fn evaluate_shift(
 
 // A number as one of an integer type.
 #[cycle(evaluate)]
+#[inline(never)]
 fn evaluate_into(
     rules: &Rules,
     e: &Expr,
@@ -454,6 +449,7 @@ fn evaluate_into(
 
 // A comparison.
 #[cycle(evaluate)]
+#[inline(never)]
 fn evaluate_compare(
     rules: &Rules,
     left: &Expr,
@@ -483,6 +479,7 @@ fn evaluate_compare(
 
 // Operands in order until one is false.
 #[cycle(evaluate)]
+#[inline(never)]
 fn evaluate_all(
     rules: &Rules,
     es: &[Expr],
@@ -507,6 +504,7 @@ fn evaluate_all(
 
 // Operands in order until one is true.
 #[cycle(evaluate)]
+#[inline(never)]
 fn evaluate_any(
     rules: &Rules,
     es: &[Expr],
@@ -531,6 +529,7 @@ fn evaluate_any(
 
 // Negation.
 #[cycle(evaluate)]
+#[inline(never)]
 fn evaluate_not(
     rules: &Rules,
     e: &Expr,
@@ -552,6 +551,7 @@ fn evaluate_not(
 
 // A function on its arguments.
 #[cycle(evaluate)]
+#[inline(never)]
 fn evaluate_apply(
     rules: &Rules,
     es: &[Expr],

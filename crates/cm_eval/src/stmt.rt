@@ -163,6 +163,7 @@ fn run_statement(
 
 // A value gets a name: it is the next local.
 #[cycle(evaluate)]
+#[inline(never)]
 fn run_let(
     rules: &Rules,
     e: &Expr,
@@ -189,6 +190,7 @@ fn run_let(
 
 // An assignment.
 #[cycle(evaluate)]
+#[inline(never)]
 fn run_set(
     rules: &Rules,
     s: u16,
@@ -226,6 +228,7 @@ fn run_set(
 
 // The right side of an assignment, and the write.
 #[cycle(evaluate)]
+#[inline(never)]
 fn run_write(
     rules: &Rules,
     cell: CellName,
@@ -253,6 +256,7 @@ fn run_write(
 
 // A block whose locals end with it.
 #[cycle(evaluate)]
+#[inline(never)]
 fn run_branch(
     rules: &Rules,
     body: &[Stmt],
@@ -275,6 +279,7 @@ fn run_branch(
 
 // An option that is inspected.
 #[cycle(evaluate)]
+#[inline(never)]
 fn evaluate_option(
     rules: &Rules,
     e: &Expr,
@@ -323,6 +328,7 @@ fn open_option(
 
 // The block of a payload.
 #[cycle(evaluate)]
+#[inline(never)]
 fn run_some(
     rules: &Rules,
     v: Value,
@@ -348,6 +354,7 @@ fn run_some(
 
 // A condition without which the run is blocked.
 #[cycle(evaluate)]
+#[inline(never)]
 fn run_assume(
     rules: &Rules,
     e: &Expr,
@@ -370,6 +377,7 @@ fn run_assume(
 
 // The end of a body.
 #[cycle(evaluate)]
+#[inline(never)]
 fn run_return(
     rules: &Rules,
     e: &Expr,

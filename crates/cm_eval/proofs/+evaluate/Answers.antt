@@ -20,8 +20,8 @@ use Rattle.cm_eval.proofs.Measures.{key_depth, depth_of, block_depth}
 use Rattle.cm_eval.proofs.Functions.{function_meaning, no_function}
 use Rattle.cm_eval.proofs.Touching.{read_gives, read_halts, write_goes, write_halts, asks_some, asks_none}
 use Rattle.cm_eval.specs.declared.flow.Flow.TheVariants as flow
-use Rattle.cm_eval.proofs.Nodes.{node_num, node_tag, node_local, node_whole, node_read, node_fields, node_with, node_make, node_none, node_some, node_into, node_compare, node_not, node_apply, turn_set, turn_if, turn_case}
-use Rattle.cm_eval.proofs.Steps.{thus, halt, gives, blocks, out, stuck, opt, mapped, answers, means, turn, unroll, no_more, ended, renamed, turn_ends, turn_halts, turn_goes, turn_means, turn_locals, turn_scoped, turn_same, wrote, block_next, block_reply, block_blocked, outer_kept, take_front}
+use Rattle.cm_eval.proofs.Nodes.{node_num, node_tag, node_local, node_whole, node_read, node_fields, node_with, node_make, node_none, node_some, node_into, node_compare, node_all, node_any, node_not, node_apply, turn_set, turn_if, turn_case}
+use Rattle.cm_eval.proofs.Steps.{thus, halt, gives, blocks, out, stuck, opt, mapped, answers, means, on_ok, turn, unroll, no_more, ended, renamed, turn_ends, turn_halts, turn_goes, turn_means, turn_locals, turn_scoped, turn_same, wrote, block_next, block_reply, block_blocked, outer_kept, take_front}
 use Rattle.cm_eval.proofs.Near.{near_of, near_sum, wide, wide_number, reach_number, fitting_number, fitting_of, sets_small, sets_fit}
 use Rattle.cm_eval.proofs.+evaluate.Goals as goal
 
@@ -66,47 +66,53 @@ expr::evaluate-returns-in-Num-clause-gives t c = means c.args.locals.now (ap (do
 pub expr::evaluate-returns-in-Tag-clause-gives : goal.expr::evaluate-returns-in-Tag-clause-gives
 expr::evaluate-returns-in-Tag-clause-gives t c = means c.args.locals.now (ap (doing_of c.args.rules.now) c.in-Tag.is ∙ node_tag c.args.rules.now _ c.in-Tag.index) (gives (λ k. k (operand.Plain (value.Tag c.in-Tag.index))) _ (λ k. refl))
 
-pub expr::evaluate-returns-in_ok-r-in-Local-clause-gives : goal.expr::evaluate-returns-in_ok-r-in-Local-clause-gives
-expr::evaluate-returns-in_ok-r-in-Local-clause-gives t c = means c.args.locals.now (ap (doing_of c.args.rules.now) c.in-Local.is ∙ node_local c.args.rules.now c.in-Local.i) (answers c.in_ok-r-in-Local.ensures.value (mapped operand.Plain _ (opt (slice_get c.args.locals.now c.in-Local.i))))
+pub expr::evaluate-returns-in-Local-clause-gives : goal.expr::evaluate-returns-in-Local-clause-gives
+expr::evaluate-returns-in-Local-clause-gives t c = on_ok c.local.result _ _ (λ o e. means c.args.locals.now (ap (doing_of c.args.rules.now) c.in-Local.is ∙ node_local c.args.rules.now c.in-Local.i) (answers e (mapped operand.Plain _ (opt (slice_get c.args.locals.now c.in-Local.i))))) c.local.ensures.value
 
-pub expr::evaluate-returns-in_ok-r-in-Some-clause-gives : goal.expr::evaluate-returns-in_ok-r-in-Some-clause-gives
-expr::evaluate-returns-in_ok-r-in-Some-clause-gives t c = means c.args.locals.now (ap (doing_of c.args.rules.now) c.in-Cell.is ∙ ap (λ k. doing_of c.args.rules.now (expr.Cell c.in-Cell.s k)) c.in-Some.is ∙ node_read c.args.rules.now c.in-Cell.s c.in-Some.key ∙ ap (λ x. read_of c.in-Cell.s (Some (doing_of c.args.rules.now x))) (sym c.get.ensures)) c.in_ok-r-in-Some.ensures.gives
+pub expr::evaluate-returns-in-Some-clause-gives : goal.expr::evaluate-returns-in-Some-clause-gives
+expr::evaluate-returns-in-Some-clause-gives t c = on_ok c.evaluate_read.result _ _ (λ o g. means c.args.locals.now (ap (doing_of c.args.rules.now) c.in-Cell.is ∙ ap (λ k. doing_of c.args.rules.now (expr.Cell c.in-Cell.s k)) c.in-Some.is ∙ node_read c.args.rules.now c.in-Cell.s c.in-Some.key ∙ ap (λ x. read_of c.in-Cell.s (Some (doing_of c.args.rules.now x))) (sym c.get.ensures)) g) c.evaluate_read.ensures.gives
 
-pub expr::evaluate-returns-in_ok-r-in-None-clause-gives : goal.expr::evaluate-returns-in_ok-r-in-None-clause-gives
-expr::evaluate-returns-in_ok-r-in-None-clause-gives t c = means c.args.locals.now (ap (doing_of c.args.rules.now) c.in-Cell.is ∙ ap (λ k. doing_of c.args.rules.now (expr.Cell c.in-Cell.s k)) c.in-None.is ∙ node_whole c.args.rules.now c.in-Cell.s) (record { on = c.in_ok-r-in-None.ensures.gives.on })
+pub expr::evaluate-returns-in-None-clause-gives : goal.expr::evaluate-returns-in-None-clause-gives
+expr::evaluate-returns-in-None-clause-gives t c = on_ok c.read_cell.result _ _ (λ o g. means c.args.locals.now (ap (doing_of c.args.rules.now) c.in-Cell.is ∙ ap (λ k. doing_of c.args.rules.now (expr.Cell c.in-Cell.s k)) c.in-None.is ∙ node_whole c.args.rules.now c.in-Cell.s) (record { on = g.on })) c.read_cell.ensures.gives
 
-pub expr::evaluate-returns-in_ok-r-in-Fields-clause-gives : goal.expr::evaluate-returns-in_ok-r-in-Fields-clause-gives
-expr::evaluate-returns-in_ok-r-in-Fields-clause-gives t c = means c.args.locals.now (ap (doing_of c.args.rules.now) c.in-Fields.is ∙ node_fields c.args.rules.now c.in-Fields.of c.in-Fields.path ∙ ap (λ x. fields_of (doing_of c.args.rules.now x) c.in-Fields.path) (sym c.get-in-Fields.ensures) ∙ ap (fields_of (doing_of c.args.rules.now c.get-in-Fields.result.now)) (sym c.as_slice.ensures)) c.in_ok-r-in-Fields.ensures.gives
+pub expr::evaluate-returns-in-Fields-clause-gives : goal.expr::evaluate-returns-in-Fields-clause-gives
+expr::evaluate-returns-in-Fields-clause-gives t c = on_ok c.evaluate_fields.result _ _ (λ o g. means c.args.locals.now (ap (doing_of c.args.rules.now) c.in-Fields.is ∙ node_fields c.args.rules.now c.in-Fields.of c.in-Fields.path ∙ ap (λ x. fields_of (doing_of c.args.rules.now x) c.in-Fields.path) (sym c.get-in-Fields.ensures) ∙ ap (fields_of (doing_of c.args.rules.now c.get-in-Fields.result.now)) (sym c.as_slice.ensures)) g) c.evaluate_fields.ensures.gives
 
-pub expr::evaluate-returns-in_ok-r-in-Some-2-clause-gives : goal.expr::evaluate-returns-in_ok-r-in-Some-2-clause-gives
-expr::evaluate-returns-in_ok-r-in-Some-2-clause-gives t c = means c.args.locals.now (ap (doing_of c.args.rules.now) c.in-With.is ∙ node_with c.args.rules.now c.in-With.of c.in-With.sets ∙ ap (λ x. with_of (doing_of c.args.rules.now x) (sets_in c.args.rules.now c.in-With.sets)) (sym c.get-in-With.ensures) ∙ ap (λ x. with_of (doing_of c.args.rules.now c.get-in-With.result.now) (sets_in c.args.rules.now x)) (sym c.as_slice-in-Some-2.ensures)) (thus (λ v. replaced_of v (sets_in c.args.rules.now c.as_slice-in-Some-2.result.now) c.args.locals.now) c.in-Some-2.v c.in_ok-v-in-With.ensures.gives c.in-Some-2.is c.in_ok-r-in-Some-2.ensures.gives)
+pub expr::evaluate-returns-in-Some-2-clause-gives : goal.expr::evaluate-returns-in-Some-2-clause-gives
+expr::evaluate-returns-in-Some-2-clause-gives t c = on_ok c.evaluate_with.result _ _ (λ o g. means c.args.locals.now (ap (doing_of c.args.rules.now) c.in-With.is ∙ node_with c.args.rules.now c.in-With.of c.in-With.sets ∙ ap (λ x. with_of (doing_of c.args.rules.now x) (sets_in c.args.rules.now c.in-With.sets)) (sym c.get-in-With.ensures) ∙ ap (λ x. with_of (doing_of c.args.rules.now c.get-in-With.result.now) (sets_in c.args.rules.now x)) (sym c.as_slice-in-Some-2.ensures)) (thus (λ v. replaced_of v (sets_in c.args.rules.now c.as_slice-in-Some-2.result.now) c.args.locals.now) c.in-Some-2.v c.in_ok-v-in-With.ensures.gives c.in-Some-2.is g)) c.evaluate_with.ensures.gives
 
-pub expr::evaluate-returns-in_ok-r-in-Some-2-clause-fits : goal.expr::evaluate-returns-in_ok-r-in-Some-2-clause-fits
-expr::evaluate-returns-in_ok-r-in-Some-2-clause-fits t c = sets_fit c.args.e.now c.in-With.of c.in-With.sets c.as_slice-in-Some-2.result.now c.in-With.is c.as_slice-in-Some-2.ensures c.in_ok-r-in-Some-2.r c.in_ok-r-in-Some-2.ensures.fits
+pub expr::evaluate-returns-in-Some-2-clause-fits : goal.expr::evaluate-returns-in-Some-2-clause-fits
+expr::evaluate-returns-in-Some-2-clause-fits t c = on_ok c.evaluate_with.result _ _ (λ o h. sets_fit c.args.e.now c.in-With.of c.in-With.sets c.as_slice-in-Some-2.result.now c.in-With.is c.as_slice-in-Some-2.ensures o h) c.evaluate_with.ensures.fits
 
 pub expr::evaluate-returns-in-None-2-clause-gives : goal.expr::evaluate-returns-in-None-2-clause-gives
 expr::evaluate-returns-in-None-2-clause-gives t c = means c.args.locals.now (ap (doing_of c.args.rules.now) c.in-With.is ∙ node_with c.args.rules.now c.in-With.of c.in-With.sets ∙ ap (λ x. with_of (doing_of c.args.rules.now x) (sets_in c.args.rules.now c.in-With.sets)) (sym c.get-in-With.ensures)) (halt (λ v. replaced_of v (sets_in c.args.rules.now c.in-With.sets) c.args.locals.now) c.in_ok-v-in-With.ensures.gives c.in-None-2.is)
 
-pub expr::evaluate-returns-in_ok-r-in-Make-clause-gives : goal.expr::evaluate-returns-in_ok-r-in-Make-clause-gives
-expr::evaluate-returns-in_ok-r-in-Make-clause-gives t c = means c.args.locals.now (ap (doing_of c.args.rules.now) c.in-Make.is ∙ node_make c.args.rules.now _ c.in-Make.parts ∙ ap (λ x. make_of (map (doing_of c.args.rules.now) x)) (sym c.as_slice-in-Make.ensures)) c.in_ok-r-in-Make.ensures.gives
+pub expr::evaluate-returns-in-Make-clause-gives : goal.expr::evaluate-returns-in-Make-clause-gives
+expr::evaluate-returns-in-Make-clause-gives t c = on_ok c.evaluate_make.result _ _ (λ o g. means c.args.locals.now (ap (doing_of c.args.rules.now) c.in-Make.is ∙ node_make c.args.rules.now _ c.in-Make.parts ∙ ap (λ x. make_of (map (doing_of c.args.rules.now) x)) (sym c.as_slice-in-Make.ensures)) g) c.evaluate_make.ensures.gives
 
 pub expr::evaluate-returns-in-NoneOf-clause-gives : goal.expr::evaluate-returns-in-NoneOf-clause-gives
 expr::evaluate-returns-in-NoneOf-clause-gives t c = means c.args.locals.now (ap (doing_of c.args.rules.now) c.in-NoneOf.is ∙ node_none c.args.rules.now _) (gives (λ k. k (operand.Plain value.None)) _ (λ k. refl))
 
-pub expr::evaluate-returns-in_ok-r-in-SomeOf-clause-gives : goal.expr::evaluate-returns-in_ok-r-in-SomeOf-clause-gives
-expr::evaluate-returns-in_ok-r-in-SomeOf-clause-gives t c = means c.args.locals.now (ap (doing_of c.args.rules.now) c.in-SomeOf.is ∙ node_some c.args.rules.now c.in-SomeOf.of ∙ ap (λ x. some_of (doing_of c.args.rules.now x)) (sym c.get-in-SomeOf.ensures)) c.in_ok-r-in-SomeOf.ensures.gives
+pub expr::evaluate-returns-in-SomeOf-clause-gives : goal.expr::evaluate-returns-in-SomeOf-clause-gives
+expr::evaluate-returns-in-SomeOf-clause-gives t c = on_ok c.evaluate_some.result _ _ (λ o g. means c.args.locals.now (ap (doing_of c.args.rules.now) c.in-SomeOf.is ∙ node_some c.args.rules.now c.in-SomeOf.of ∙ ap (λ x. some_of (doing_of c.args.rules.now x)) (sym c.get-in-SomeOf.ensures)) g) c.evaluate_some.ensures.gives
 
-pub expr::evaluate-returns-in_ok-r-in-Into-clause-gives : goal.expr::evaluate-returns-in_ok-r-in-Into-clause-gives
-expr::evaluate-returns-in_ok-r-in-Into-clause-gives t c = means c.args.locals.now (ap (doing_of c.args.rules.now) c.in-Into.is ∙ node_into c.args.rules.now c.in-Into.int c.in-Into.of ∙ ap (λ x. into_of (slice_get c.args.rules.now.ints.now c.in-Into.int) (doing_of c.args.rules.now x)) (sym c.get-in-Into.ensures)) c.in_ok-r-in-Into.ensures.gives
+pub expr::evaluate-returns-in-Into-clause-gives : goal.expr::evaluate-returns-in-Into-clause-gives
+expr::evaluate-returns-in-Into-clause-gives t c = on_ok c.evaluate_into.result _ _ (λ o g. means c.args.locals.now (ap (doing_of c.args.rules.now) c.in-Into.is ∙ node_into c.args.rules.now c.in-Into.int c.in-Into.of ∙ ap (λ x. into_of (slice_get c.args.rules.now.ints.now c.in-Into.int) (doing_of c.args.rules.now x)) (sym c.get-in-Into.ensures)) g) c.evaluate_into.ensures.gives
 
-pub expr::evaluate-returns-in_ok-r-in-Compare-clause-gives : goal.expr::evaluate-returns-in_ok-r-in-Compare-clause-gives
-expr::evaluate-returns-in_ok-r-in-Compare-clause-gives t c = means c.args.locals.now (ap (doing_of c.args.rules.now) c.in-Compare.is ∙ node_compare c.args.rules.now c.in-Compare.op c.in-Compare.left c.in-Compare.right ∙ ap (λ x. compare_of c.in-Compare.op (doing_of c.args.rules.now x) (doing_of c.args.rules.now c.in-Compare.right)) (sym c.get-in-Compare.ensures) ∙ ap (λ x. compare_of c.in-Compare.op (doing_of c.args.rules.now c.get-in-Compare.result.now) (doing_of c.args.rules.now x)) (sym c.get-in-Compare-2.ensures)) c.in_ok-r-in-Compare.ensures.gives
+pub expr::evaluate-returns-in-Compare-clause-gives : goal.expr::evaluate-returns-in-Compare-clause-gives
+expr::evaluate-returns-in-Compare-clause-gives t c = on_ok c.evaluate_compare.result _ _ (λ o g. means c.args.locals.now (ap (doing_of c.args.rules.now) c.in-Compare.is ∙ node_compare c.args.rules.now c.in-Compare.op c.in-Compare.left c.in-Compare.right ∙ ap (λ x. compare_of c.in-Compare.op (doing_of c.args.rules.now x) (doing_of c.args.rules.now c.in-Compare.right)) (sym c.get-in-Compare.ensures) ∙ ap (λ x. compare_of c.in-Compare.op (doing_of c.args.rules.now c.get-in-Compare.result.now) (doing_of c.args.rules.now x)) (sym c.get-in-Compare-2.ensures)) g) c.evaluate_compare.ensures.gives
 
-pub expr::evaluate-returns-in_ok-r-in-Not-clause-gives : goal.expr::evaluate-returns-in_ok-r-in-Not-clause-gives
-expr::evaluate-returns-in_ok-r-in-Not-clause-gives t c = means c.args.locals.now (ap (doing_of c.args.rules.now) c.in-Not.is ∙ node_not c.args.rules.now c.in-Not.of ∙ ap (λ x. not_of (doing_of c.args.rules.now x)) (sym c.get-in-Not.ensures)) c.in_ok-r-in-Not.ensures.gives
+pub expr::evaluate-returns-in_ok-r-in-All-clause-gives : goal.expr::evaluate-returns-in_ok-r-in-All-clause-gives
+expr::evaluate-returns-in_ok-r-in-All-clause-gives t c = means c.args.locals.now (ap (doing_of c.args.rules.now) c.in-All.is ∙ node_all c.args.rules.now c.in-All.es ∙ ap (λ x locals k. all_of (map (doing_of c.args.rules.now) x) locals (λ s. k (flag s))) (sym c.as_slice-in-All.ensures)) (answers c.as_flag.ensures.flag (mapped flag _ c.in_ok-r-in-All.ensures.gives))
 
-pub expr::evaluate-returns-in_ok-r-in-Apply-clause-gives : goal.expr::evaluate-returns-in_ok-r-in-Apply-clause-gives
-expr::evaluate-returns-in_ok-r-in-Apply-clause-gives t c = means c.args.locals.now (ap (doing_of c.args.rules.now) c.in-Apply.is ∙ node_apply c.args.rules.now c.in-Apply.fun c.in-Apply.args ∙ ap (λ x. apply_of (fun_at (funs_of c.args.rules.now) c.in-Apply.fun) (map (doing_of c.args.rules.now) x)) (sym c.as_slice-in-Apply.ensures)) c.in_ok-r-in-Apply.ensures.gives
+pub expr::evaluate-returns-in_ok-r-in-Any-clause-gives : goal.expr::evaluate-returns-in_ok-r-in-Any-clause-gives
+expr::evaluate-returns-in_ok-r-in-Any-clause-gives t c = means c.args.locals.now (ap (doing_of c.args.rules.now) c.in-Any.is ∙ node_any c.args.rules.now c.in-Any.es ∙ ap (λ x locals k. any_of (map (doing_of c.args.rules.now) x) locals (λ s. k (flag s))) (sym c.as_slice-in-Any.ensures)) (answers c.as_flag-in-Any.ensures.flag (mapped flag _ c.in_ok-r-in-Any.ensures.gives))
+
+pub expr::evaluate-returns-in-Not-clause-gives : goal.expr::evaluate-returns-in-Not-clause-gives
+expr::evaluate-returns-in-Not-clause-gives t c = on_ok c.evaluate_not.result _ _ (λ o g. means c.args.locals.now (ap (doing_of c.args.rules.now) c.in-Not.is ∙ node_not c.args.rules.now c.in-Not.of ∙ ap (λ x. not_of (doing_of c.args.rules.now x)) (sym c.get-in-Not.ensures)) g) c.evaluate_not.ensures.gives
+
+pub expr::evaluate-returns-in-Apply-clause-gives : goal.expr::evaluate-returns-in-Apply-clause-gives
+expr::evaluate-returns-in-Apply-clause-gives t c = on_ok c.evaluate_apply.result _ _ (λ o g. means c.args.locals.now (ap (doing_of c.args.rules.now) c.in-Apply.is ∙ node_apply c.args.rules.now c.in-Apply.fun c.in-Apply.args ∙ ap (λ x. apply_of (fun_at (funs_of c.args.rules.now) c.in-Apply.fun) (map (doing_of c.args.rules.now) x)) (sym c.as_slice-in-Apply.ensures)) g) c.evaluate_apply.ensures.gives
 
 pub expr::evaluate_all-evaluate_flag-requires : goal.expr::evaluate_all-evaluate_flag-requires
 expr::evaluate_all-evaluate_flag-requires t c = ((let deep = subst (λ x. size-Expr x ≤ most size-Expr c.args.es.now) (sym c.e-item.is) (at_most size-Expr c.args.es.now c.loop-e.e-index c.e-item.result c.loop-e-test.true) in omega (arith, c.decreases, deep)), (c.requires.rules, (item_within reach_of c.args.es.now c.loop-e.e-index 65 c.e-item.result c.loop-e-test.true c.e-item.is c.requires.reach, c.requires.locals)))
