@@ -40,10 +40,14 @@ pub fn evaluate(
         Expr::Num(n) => Ok(Some(Operand::Number(*n))),
         Expr::Tag { ty: _, index } => Ok(Some(Operand::Plain(Value::Tag(*index)))),
         Expr::Local(i) => local(rules, *i, locals),
-        Expr::Cell { state: s, key } => match key {
-            Some(key) => evaluate_read(rules, *s, key.get(), locals, state, log),
-            None => read_cell(rules, *s, state, log),
-        },
+        Expr::Cell {
+            state: s,
+            key: Some(key),
+        } => evaluate_read(rules, *s, key.get(), locals, state, log),
+        Expr::Cell {
+            state: s,
+            key: None,
+        } => read_cell(rules, *s, state, log),
         Expr::Fields { of, path } => evaluate_fields(
             rules,
             of.get(),
@@ -52,10 +56,9 @@ pub fn evaluate(
             state,
             log,
         ),
-        Expr::With { of, sets } => match evaluate_value(rules, of.get(), locals, state, log)? {
-            Some(v) => evaluate_with(rules, sets.as_slice(), v, locals, state, log),
-            None => Ok(None),
-        },
+        Expr::With { of, sets } => {
+            evaluate_with(rules, sets.as_slice(), of.get(), locals, state, log)
+        }
         Expr::Make { rec: _, parts } => evaluate_make(rules, parts.as_slice(), locals, state, log),
         Expr::NoneOf(_) => Ok(Some(Operand::Plain(Value::None))),
         Expr::SomeOf(of) => evaluate_some(rules, of.get(), locals, state, log),
@@ -275,6 +278,29 @@ fn evaluate_fields(
 #[cycle(evaluate)]
 #[inline(never)]
 fn evaluate_with(
+    rules: &Rules,
+    sets: &[SetField],
+    e: &Expr,
+    locals: &[Value],
+    state: &mut State,
+    log: &mut Log,
+) -> Result<Option<Operand>, NoMemory>
+    requires rules { AreFitting rules.now }
+    requires reach { reach_of e.now ≤ 65 }
+    requires sets { sets_reach sets.now ≤ 65 }
+    requires locals { IsTrue (are_limited locals.now) }
+    ensures gives { IfOk result (λ r. Gives rules.now (with_of (doing_of rules.now e.now) (sets_in rules.now sets.now) locals.now) r state.old log.old state.new log.new) }
+    ensures fits { IfOk result (λ r. IfSome r (IsFitting (sets_reach sets.now))) }
+{
+    match evaluate_value(rules, e, locals, state, log)? {
+        Some(v) => evaluate_replaced(rules, sets, v, locals, state, log),
+        None => Ok(None),
+    }
+}
+
+// A value with some fields replaced.
+#[cycle(evaluate)]
+fn evaluate_replaced(
     rules: &Rules,
     sets: &[SetField],
     of: Value,

@@ -1,7 +1,8 @@
-use Rattle.std.proofs.Common.{rules, ◌≡◌, ◌+◌, ◌*◌, ◌≤◌, ◌+ℤ◌, true, false, not, [], ◌∷◌, ◌++◌, map, drop, take, length, Some, None, IfSome, IsTrue, slice_get, refl, sym, ap, ◌∙◌, subst, arith, if◌then◌else◌, to_z, of_z, w64}
+use Rattle.std.proofs.Common.{rules, ◌≡◌, suc, ◌+◌, ◌*◌, ◌≤◌, ◌+ℤ◌, true, false, not, [], ◌∷◌, ◌++◌, map, drop, take, length, Some, None, IfSome, IsTrue, slice_get, refl, sym, ap, ◌∙◌, subst, arith, if◌then◌else◌, to_z, of_z, w64}
 use denote.Param.Weighed.{most, at_most}
 use Rattle.cm_model.specs.declared.body.Expr.TheViews.{the_lemmas}
 use Rattle.cm_model.specs.declared.body.Expr.{size-Expr}
+use Rattle.cm_model.specs.declared.body.SetField.{size-SetField}
 use Rattle.cm_model.specs.declared.body.Expr.TheVariants as expr
 use Rattle.cm_value.specs.declared.value.Value.TheVariants as value
 use Rattle.cm_value.specs.Limits.{is_limited}
@@ -22,7 +23,7 @@ use Rattle.cm_eval.proofs.Touching.{read_gives, read_halts, write_goes, write_ha
 use Rattle.cm_eval.specs.declared.flow.Flow.TheVariants as flow
 use Rattle.cm_eval.proofs.Nodes.{node_num, node_tag, node_local, node_whole, node_read, node_fields, node_with, node_make, node_none, node_some, node_into, node_compare, node_all, node_any, node_not, node_apply, turn_set, turn_if, turn_case}
 use Rattle.cm_eval.proofs.Steps.{thus, halt, gives, blocks, out, stuck, opt, mapped, answers, means, on_ok, turn, unroll, no_more, ended, renamed, turn_ends, turn_halts, turn_goes, turn_means, turn_locals, turn_scoped, turn_same, wrote, block_next, block_reply, block_blocked, outer_kept, take_front}
-use Rattle.cm_eval.proofs.Near.{near_of, near_sum, wide, wide_number, reach_number, fitting_number, fitting_of, sets_small, sets_fit}
+use Rattle.cm_eval.proofs.Near.{near_of, near_sum, wide, wide_number, reach_number, fitting_number, fitting_of, base_small, sets_small, sets_fit}
 use Rattle.cm_eval.proofs.+evaluate.Goals as goal
 
 pub cells::ask-returns-in-Some-2 : goal.cells::ask-returns-in-Some-2
@@ -56,9 +57,10 @@ cells::write-returns-in-None t c = record { puts = write_halts c.args.rules.now 
 
 pub expr::evaluate-evaluate_with-requires : goal.expr::evaluate-evaluate_with-requires
 expr::evaluate-evaluate_with-requires t c =
-    let limited = subst (λ o. IfSome o (λ v. IsTrue (is_limited v))) c.in-Some-2.is c.in_ok-v-in-With.ensures.limited in
-    let small = sets_small c.args.e.now c.in-With.of c.in-With.sets c.as_slice-in-Some-2.result.now c.in-With.is c.as_slice-in-Some-2.ensures c.requires.reach in
-    search (rules, the_lemmas)
+    let small = sets_small c.args.e.now c.in-With.of c.in-With.sets c.as_slice-in-With.result.now c.in-With.is c.as_slice-in-With.ensures c.requires.reach in
+    let less : suc (size-Expr c.get-in-With.result.now) ≤ size-Expr c.args.e.now = search (rules, the_lemmas) in
+    let fewer : suc (most size-SetField c.as_slice-in-With.result.now) ≤ size-Expr c.args.e.now = search (rules, the_lemmas) in
+    (omega (arith, c.decreases, less, fewer), (c.requires.rules, (base_small c.args.e.now c.in-With.of c.get-in-With.result.now c.in-With.sets c.in-With.is c.get-in-With.ensures c.requires.reach, (small, c.requires.locals))))
 
 pub expr::evaluate-returns-in-Num-clause-gives : goal.expr::evaluate-returns-in-Num-clause-gives
 expr::evaluate-returns-in-Num-clause-gives t c = means c.args.locals.now (ap (doing_of c.args.rules.now) c.in-Num.is ∙ node_num c.args.rules.now c.in-Num.n) (answers (ap (λ n. Some (operand.Number n)) (wide_number c.in-Num.n (reach_number c.in-Num.n (subst (λ e. reach_of e ≤ 65) c.in-Num.is c.requires.reach)))) (gives (λ k. k (operand.Number c.in-Num.n)) (operand.Number c.in-Num.n) (λ k. refl)))
@@ -69,23 +71,25 @@ expr::evaluate-returns-in-Tag-clause-gives t c = means c.args.locals.now (ap (do
 pub expr::evaluate-returns-in-Local-clause-gives : goal.expr::evaluate-returns-in-Local-clause-gives
 expr::evaluate-returns-in-Local-clause-gives t c = on_ok c.local.result _ _ (λ o e. means c.args.locals.now (ap (doing_of c.args.rules.now) c.in-Local.is ∙ node_local c.args.rules.now c.in-Local.i) (answers e (mapped operand.Plain _ (opt (slice_get c.args.locals.now c.in-Local.i))))) c.local.ensures.value
 
-pub expr::evaluate-returns-in-Some-clause-gives : goal.expr::evaluate-returns-in-Some-clause-gives
-expr::evaluate-returns-in-Some-clause-gives t c = on_ok c.evaluate_read.result _ _ (λ o g. means c.args.locals.now (ap (doing_of c.args.rules.now) c.in-Cell.is ∙ ap (λ k. doing_of c.args.rules.now (expr.Cell c.in-Cell.s k)) c.in-Some.is ∙ node_read c.args.rules.now c.in-Cell.s c.in-Some.key ∙ ap (λ x. read_of c.in-Cell.s (Some (doing_of c.args.rules.now x))) (sym c.get.ensures)) g) c.evaluate_read.ensures.gives
-
-pub expr::evaluate-returns-in-None-clause-gives : goal.expr::evaluate-returns-in-None-clause-gives
-expr::evaluate-returns-in-None-clause-gives t c = on_ok c.read_cell.result _ _ (λ o g. means c.args.locals.now (ap (doing_of c.args.rules.now) c.in-Cell.is ∙ ap (λ k. doing_of c.args.rules.now (expr.Cell c.in-Cell.s k)) c.in-None.is ∙ node_whole c.args.rules.now c.in-Cell.s) (record { on = g.on })) c.read_cell.ensures.gives
-
 pub expr::evaluate-returns-in-Fields-clause-gives : goal.expr::evaluate-returns-in-Fields-clause-gives
 expr::evaluate-returns-in-Fields-clause-gives t c = on_ok c.evaluate_fields.result _ _ (λ o g. means c.args.locals.now (ap (doing_of c.args.rules.now) c.in-Fields.is ∙ node_fields c.args.rules.now c.in-Fields.of c.in-Fields.path ∙ ap (λ x. fields_of (doing_of c.args.rules.now x) c.in-Fields.path) (sym c.get-in-Fields.ensures) ∙ ap (fields_of (doing_of c.args.rules.now c.get-in-Fields.result.now)) (sym c.as_slice.ensures)) g) c.evaluate_fields.ensures.gives
 
-pub expr::evaluate-returns-in-Some-2-clause-gives : goal.expr::evaluate-returns-in-Some-2-clause-gives
-expr::evaluate-returns-in-Some-2-clause-gives t c = on_ok c.evaluate_with.result _ _ (λ o g. means c.args.locals.now (ap (doing_of c.args.rules.now) c.in-With.is ∙ node_with c.args.rules.now c.in-With.of c.in-With.sets ∙ ap (λ x. with_of (doing_of c.args.rules.now x) (sets_in c.args.rules.now c.in-With.sets)) (sym c.get-in-With.ensures) ∙ ap (λ x. with_of (doing_of c.args.rules.now c.get-in-With.result.now) (sets_in c.args.rules.now x)) (sym c.as_slice-in-Some-2.ensures)) (thus (λ v. replaced_of v (sets_in c.args.rules.now c.as_slice-in-Some-2.result.now) c.args.locals.now) c.in-Some-2.v c.in_ok-v-in-With.ensures.gives c.in-Some-2.is g)) c.evaluate_with.ensures.gives
+pub expr::evaluate-returns-in-With-clause-gives : goal.expr::evaluate-returns-in-With-clause-gives
+expr::evaluate-returns-in-With-clause-gives t c = on_ok c.evaluate_with.result _ _ (λ o g. means c.args.locals.now (ap (doing_of c.args.rules.now) c.in-With.is ∙ node_with c.args.rules.now c.in-With.of c.in-With.sets ∙ ap (λ x. with_of (doing_of c.args.rules.now x) (sets_in c.args.rules.now c.in-With.sets)) (sym c.get-in-With.ensures) ∙ ap (λ x. with_of (doing_of c.args.rules.now c.get-in-With.result.now) (sets_in c.args.rules.now x)) (sym c.as_slice-in-With.ensures)) g) c.evaluate_with.ensures.gives
 
-pub expr::evaluate-returns-in-Some-2-clause-fits : goal.expr::evaluate-returns-in-Some-2-clause-fits
-expr::evaluate-returns-in-Some-2-clause-fits t c = on_ok c.evaluate_with.result _ _ (λ o h. sets_fit c.args.e.now c.in-With.of c.in-With.sets c.as_slice-in-Some-2.result.now c.in-With.is c.as_slice-in-Some-2.ensures o h) c.evaluate_with.ensures.fits
+pub expr::evaluate-returns-in-With-clause-fits : goal.expr::evaluate-returns-in-With-clause-fits
+expr::evaluate-returns-in-With-clause-fits t c = on_ok c.evaluate_with.result _ _ (λ o h. sets_fit c.args.e.now c.in-With.of c.in-With.sets c.as_slice-in-With.result.now c.in-With.is c.as_slice-in-With.ensures o h) c.evaluate_with.ensures.fits
 
-pub expr::evaluate-returns-in-None-2-clause-gives : goal.expr::evaluate-returns-in-None-2-clause-gives
-expr::evaluate-returns-in-None-2-clause-gives t c = means c.args.locals.now (ap (doing_of c.args.rules.now) c.in-With.is ∙ node_with c.args.rules.now c.in-With.of c.in-With.sets ∙ ap (λ x. with_of (doing_of c.args.rules.now x) (sets_in c.args.rules.now c.in-With.sets)) (sym c.get-in-With.ensures)) (halt (λ v. replaced_of v (sets_in c.args.rules.now c.in-With.sets) c.args.locals.now) c.in_ok-v-in-With.ensures.gives c.in-None-2.is)
+pub expr::evaluate_with-evaluate_replaced-requires : goal.expr::evaluate_with-evaluate_replaced-requires
+expr::evaluate_with-evaluate_replaced-requires t c =
+    let limited = subst (λ o. IfSome o (λ v. IsTrue (is_limited v))) c.in-Some.is c.in_ok-v.ensures.limited in
+    search (rules, the_lemmas)
+
+pub expr::evaluate_with-returns-in-Some-clause-gives : goal.expr::evaluate_with-returns-in-Some-clause-gives
+expr::evaluate_with-returns-in-Some-clause-gives t c = on_ok c.evaluate_replaced.result _ _ (λ o g. thus (λ v. replaced_of v (sets_in c.args.rules.now c.args.sets.now) c.args.locals.now) c.in-Some.v c.in_ok-v.ensures.gives c.in-Some.is g) c.evaluate_replaced.ensures.gives
+
+pub expr::evaluate_with-returns-in-None-clause-gives : goal.expr::evaluate_with-returns-in-None-clause-gives
+expr::evaluate_with-returns-in-None-clause-gives t c = halt (λ v. replaced_of v (sets_in c.args.rules.now c.args.sets.now) c.args.locals.now) c.in_ok-v.ensures.gives c.in-None.is
 
 pub expr::evaluate-returns-in-Make-clause-gives : goal.expr::evaluate-returns-in-Make-clause-gives
 expr::evaluate-returns-in-Make-clause-gives t c = on_ok c.evaluate_make.result _ _ (λ o g. means c.args.locals.now (ap (doing_of c.args.rules.now) c.in-Make.is ∙ node_make c.args.rules.now _ c.in-Make.parts ∙ ap (λ x. make_of (map (doing_of c.args.rules.now) x)) (sym c.as_slice-in-Make.ensures)) g) c.evaluate_make.ensures.gives

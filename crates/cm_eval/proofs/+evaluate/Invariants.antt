@@ -75,7 +75,10 @@ abbrev pub decreases-expr::evaluate_sets : goal.decreases-expr::evaluate_sets
 decreases-expr::evaluate_sets l = 8 * goal.size-expr::evaluate_sets l + 2 + load l.rules.now
 
 abbrev pub decreases-expr::evaluate_with : goal.decreases-expr::evaluate_with
-decreases-expr::evaluate_with l = 8 * goal.size-expr::evaluate_with l + 3 + load l.rules.now
+decreases-expr::evaluate_with l = 8 * max (goal.size-expr::evaluate_with l) (size-Expr l.e.now) + 4 + load l.rules.now
+
+abbrev pub decreases-expr::evaluate_replaced : goal.decreases-expr::evaluate_replaced
+decreases-expr::evaluate_replaced l = 8 * goal.size-expr::evaluate_replaced l + 3 + load l.rules.now
 
 abbrev pub decreases-expr::evaluate_compare : goal.decreases-expr::evaluate_compare
 decreases-expr::evaluate_compare l = 8 * max (size-Expr l.left.now) (size-Expr l.right.now) + 1 + load l.rules.now
