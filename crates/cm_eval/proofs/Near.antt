@@ -79,6 +79,11 @@ reach_with : (e : Expr) (sets : List SetField) → reach_of (expr.With e sets) �
 reach_with e sets =
     ap reach_of (sym (expr.rolls-With e sets)) ∙ fold-roll-Expr ℕ ℕ reach_step (λ x. x.value) (Expr-F.With e sets) ∙ ap (max (reach_of e)) (same_sets sets)
 
+pub base_small : (whole e base : Expr) (sets : List SetField) → whole ≡ expr.With e sets → base ≡ e → reach_of whole ≤ 65 → reach_of base ≤ 65
+base_small whole e base sets is same h =
+    let parts : reach_of whole ≡ max (reach_of base) (sets_reach sets) = ap reach_of is ∙ reach_with e sets ∙ ap (λ x. max (reach_of x) (sets_reach sets)) (sym same) in
+    omega (arith, parts, h)
+
 pub sets_small : (whole e : Expr) (sets slice : List SetField) → whole ≡ expr.With e sets → slice ≡ sets → reach_of whole ≤ 65 → sets_reach slice ≤ 65
 sets_small whole e sets slice is same h =
     let parts : reach_of whole ≡ max (reach_of e) (sets_reach slice) = ap reach_of is ∙ reach_with e sets ∙ ap (λ ss. max (reach_of e) (sets_reach ss)) (sym same) in

@@ -1,6 +1,6 @@
 -- One step of the evaluator after another.
 use Rattle.std.proofs.Common.{◌≡◌, ℕ, ◌+◌, ◌<◌, ◌≤◌, List, [], ◌∷◌, ◌++◌, length, take, drop, get_or, Option, Some, None, refl, sym, ap, ◌∙◌, subst}
-use Rattle.std.specs.Prelude.{option_map}
+use Rattle.std.specs.Prelude.{option_map, Result, Ok, Err, IfOk}
 use Rattle.std.proofs.lemmas.List.{drop_more, drop_all}
 use Rattle.cm_value.specs.declared.value.Value.{Value}
 use Rattle.cm_eval.specs.declared.log.Log.{Log}
@@ -73,6 +73,11 @@ renamed {r = r} {o = o} {s = s} {t = t} {l = l} {after = after} m e g = subst (�
 pub means : {r : Rules} {m n : Meaning} {o : _} {s t : Store} {l after : Log} (locals : List Value)
     → m ≡ n → Gives r (n locals) o s l t after → Gives r (m locals) o s l t after
 means {r = r} {o = o} {s = s} {t = t} {l = l} {after = after} locals e g = subst (λ q. Gives r (q locals) o s l t after) (sym e) g
+
+-- what follows of the value in a result
+pub on_ok : {X E : Type 0} (res : Result X E) (P Q : X → Type 0) → ((x : X) → P x → Q x) → IfOk res P → IfOk res Q
+on_ok (Ok x) P Q f h = f x h
+on_ok (Err e) P Q f h = tt
 
 -- one more turn of a loop: from what was left to what is left now
 module _ {X Y : Type 0} (r : Rules) (m : (X → Doing) → Doing) (o : Option X) (s t : Store) (l after : Log) (W : (Y → Doing) → End)

@@ -39,7 +39,7 @@ pub fn run_call(
     };
     let rules = rules_of(alloc, model);
     let locals = copy_values(alloc, args.vals.as_slice())?;
-    match run_body(rules, declared.body.as_slice(), locals, state, log)? {
+    match run_body(&rules, declared.body.as_slice(), locals, state, log)? {
         Some(v) => Ok(Outcome::Reply(v)),
         None => Ok(Outcome::Blocked),
     }
@@ -63,7 +63,8 @@ pub fn meets_invariant(
         return Ok(true);
     };
     let mut log = Log::new(alloc);
-    let r = ask(rules_of(alloc, model), &declared.inv, v, &mut log)?;
+    let rules = rules_of(alloc, model);
+    let r = ask(&rules, &declared.inv, v, &mut log)?;
     Ok(r)
 }
 

@@ -28,13 +28,13 @@ pub enum Found {
 /// Reads a cell: touches it and gives its value.
 #[cycle(evaluate)]
 pub fn read(
-    rules: Rules,
+    rules: &Rules,
     cell: CellName,
     state: &State,
     log: &mut Log,
 ) -> Result<Option<Value>, NoMemory>
-    requires rules { AreFitting rules }
-    ensures gives { IfOk result (λ r. Gives rules.entry (Reads cell) r state.now log.old state.now log.new) }
+    requires rules { AreFitting rules.now }
+    ensures gives { IfOk result (λ r. Gives rules.now (Reads cell) r state.now log.old state.now log.new) }
     ensures limited { IfOk result (λ r. IfSome r (λ v. IsTrue (is_limited v))) }
 {
     let Some(declared) = rules.states.get(usize::from(cell.state)) else {
@@ -55,15 +55,15 @@ pub fn read(
 /// Writes a cell: touches it, marks it as written and gives it the value. Says whether the run goes on.
 #[cycle(evaluate)]
 pub fn write(
-    rules: Rules,
+    rules: &Rules,
     cell: CellName,
     value: Value,
     state: &mut State,
     log: &mut Log,
 ) -> Result<bool, NoMemory>
-    requires rules { AreFitting rules }
+    requires rules { AreFitting rules.now }
     requires limited { IsTrue (is_limited value) }
-    ensures puts { IfOk result (λ b. Puts rules.entry cell value b state.old log.old state.new log.new) }
+    ensures puts { IfOk result (λ b. Puts rules.now cell value b state.old log.old state.new log.new) }
 {
     let Some(declared) = rules.states.get(usize::from(cell.state)) else {
         return Ok(false);
@@ -94,16 +94,16 @@ fn mark(written: &mut List<bool>, at: usize)
 // Touches a cell with this value. Gives its place among the touched, or `None` where the run is blocked.
 #[cycle(evaluate)]
 fn touch(
-    rules: Rules,
+    rules: &Rules,
     declared: &StateDecl,
     cell: CellName,
     value: &Value,
     log: &mut Log,
 ) -> Result<Option<usize>, NoMemory>
-    requires rules { AreFitting rules }
+    requires rules { AreFitting rules.now }
     requires reach { key_reach declared.now.inv ≤ 65 }
     requires limited { IsTrue (is_limited value.now) }
-    ensures touches { IfOk result (λ r. Touches rules.entry declared.now value.now cell r log.old log.new) }
+    ensures touches { IfOk result (λ r. Touches rules.now declared.now value.now cell r log.old log.new) }
 {
     match find_cell(log.cells.as_slice(), &cell, &mut log.steps)? {
         Found::At(at) => Ok(Some(at)),
@@ -154,16 +154,16 @@ fn compare_cells(
 // A new cell comes last among the touched, and its invariant is asked.
 #[cycle(evaluate)]
 fn add(
-    rules: Rules,
+    rules: &Rules,
     declared: &StateDecl,
     cell: CellName,
     value: &Value,
     log: &mut Log,
 ) -> Result<Option<usize>, NoMemory>
-    requires rules { AreFitting rules }
+    requires rules { AreFitting rules.now }
     requires reach { key_reach declared.now.inv ≤ 65 }
     requires limited { IsTrue (is_limited value.now) }
-    ensures adds { IfOk result (λ r. Adds rules.entry declared.now value.now cell r log.old log.new) }
+    ensures adds { IfOk result (λ r. Adds rules.now declared.now value.now cell r log.old log.new) }
 {
     let at = log.cells.len();
     log.cells.push(cell)?;
@@ -177,15 +177,15 @@ fn add(
 /// Whether a cell's invariant is true of its value.
 #[cycle(evaluate)]
 pub fn ask(
-    rules: Rules,
+    rules: &Rules,
     invariant: &Option<Expr>,
     value: &Value,
     log: &mut Log,
 ) -> Result<bool, NoMemory>
-    requires rules { AreFitting rules }
+    requires rules { AreFitting rules.now }
     requires reach { key_reach invariant.now ≤ 65 }
     requires limited { IsTrue (is_limited value.now) }
-    ensures asks { IfOk result (λ b. Asks rules.entry invariant.now value.now b log.old log.new) }
+    ensures asks { IfOk result (λ b. Asks rules.now invariant.now value.now b log.old log.new) }
 {
     let Some(e) = invariant else {
         return Ok(true);
@@ -197,7 +197,7 @@ pub fn ask(
         states: &[],
     };
     let mut nothing = State::empty(rules.alloc);
-    match evaluate_flag(plain, e, slice::from_ref(value), &mut nothing, log)? {
+    match evaluate_flag(&plain, e, slice::from_ref(value), &mut nothing, log)? {
         Some(holds) => Ok(holds),
         None => Ok(false),
     }

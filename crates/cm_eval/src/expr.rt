@@ -24,67 +24,55 @@ use cm_value::{Vals, Value, copy_value};
 /// What an expression gives, or `None` where the run is blocked in it.
 #[cycle(evaluate)]
 pub fn evaluate(
-    rules: Rules,
+    rules: &Rules,
     e: &Expr,
     locals: &[Value],
     state: &mut State,
     log: &mut Log,
 ) -> Result<Option<Operand>, NoMemory>
-    requires rules { AreFitting rules }
+    requires rules { AreFitting rules.now }
     requires reach { reach_of e.now ≤ 65 }
     requires locals { IsTrue (are_limited locals.now) }
-    ensures gives { IfOk result (λ r. Gives rules.entry (doing_of rules.entry e.now locals.now) r state.old log.old state.new log.new) }
+    ensures gives { IfOk result (λ r. Gives rules.now (doing_of rules.now e.now locals.now) r state.old log.old state.new log.new) }
     ensures fits { IfOk result (λ r. IfSome r (IsFitting (reach_of e.now))) }
 {
     match e {
         Expr::Num(n) => Ok(Some(Operand::Number(*n))),
         Expr::Tag { ty: _, index } => Ok(Some(Operand::Plain(Value::Tag(*index)))),
-        Expr::Local(i) => {
-            let r = local(rules, *i, locals)?;
-            Ok(r)
+        Expr::Local(i) => local(rules, *i, locals),
+        Expr::Cell {
+            state: s,
+            key: Some(key),
+        } => evaluate_read(rules, *s, key.get(), locals, state, log),
+        Expr::Cell {
+            state: s,
+            key: None,
+        } => read_cell(rules, *s, state, log),
+        Expr::Fields { of, path } => evaluate_fields(
+            rules,
+            of.get(),
+            path.as_slice(),
+            locals,
+            state,
+            log,
+        ),
+        Expr::With { of, sets } => {
+            evaluate_with(rules, sets.as_slice(), of.get(), locals, state, log)
         }
-        Expr::Cell { state: s, key } => match key {
-            Some(key) => {
-                let r = evaluate_read(rules, *s, key.get(), locals, state, log)?;
-                Ok(r)
-            }
-            None => {
-                let r = read_cell(rules, *s, state, log)?;
-                Ok(r)
-            }
-        },
-        Expr::Fields { of, path } => {
-            let r = evaluate_fields(rules, of.get(), path.as_slice(), locals, state, log)?;
-            Ok(r)
-        }
-        Expr::With { of, sets } => match evaluate_value(rules, of.get(), locals, state, log)? {
-            Some(v) => {
-                let r = evaluate_with(rules, sets.as_slice(), v, locals, state, log)?;
-                Ok(r)
-            }
-            None => Ok(None),
-        },
-        Expr::Make { rec: _, parts } => {
-            let r = evaluate_make(rules, parts.as_slice(), locals, state, log)?;
-            Ok(r)
-        }
+        Expr::Make { rec: _, parts } => evaluate_make(rules, parts.as_slice(), locals, state, log),
         Expr::NoneOf(_) => Ok(Some(Operand::Plain(Value::None))),
-        Expr::SomeOf(of) => {
-            let r = evaluate_some(rules, of.get(), locals, state, log)?;
-            Ok(r)
-        }
-        Expr::Shift { of, by } => {
-            let r = evaluate_shift(rules, of.get(), *by, locals, state, log)?;
-            Ok(r)
-        }
-        Expr::Into { int, of } => {
-            let r = evaluate_into(rules, of.get(), *int, locals, state, log)?;
-            Ok(r)
-        }
-        Expr::Compare { op, left, right } => {
-            let r = evaluate_compare(rules, left.get(), right.get(), *op, locals, state, log)?;
-            Ok(r)
-        }
+        Expr::SomeOf(of) => evaluate_some(rules, of.get(), locals, state, log),
+        Expr::Shift { of, by } => evaluate_shift(rules, of.get(), *by, locals, state, log),
+        Expr::Into { int, of } => evaluate_into(rules, of.get(), *int, locals, state, log),
+        Expr::Compare { op, left, right } => evaluate_compare(
+            rules,
+            left.get(),
+            right.get(),
+            *op,
+            locals,
+            state,
+            log,
+        ),
         Expr::All(es) => {
             let r = evaluate_all(rules, es.as_slice(), locals, state, log)?;
             Ok(as_flag(r))
@@ -93,19 +81,21 @@ pub fn evaluate(
             let r = evaluate_any(rules, es.as_slice(), locals, state, log)?;
             Ok(as_flag(r))
         }
-        Expr::Not(of) => {
-            let r = evaluate_not(rules, of.get(), locals, state, log)?;
-            Ok(r)
-        }
-        Expr::Apply { fun, args } => {
-            let r = evaluate_apply(rules, args.as_slice(), *fun, locals, state, log)?;
-            Ok(r)
-        }
+        Expr::Not(of) => evaluate_not(rules, of.get(), locals, state, log),
+        Expr::Apply { fun, args } => evaluate_apply(
+            rules,
+            args.as_slice(),
+            *fun,
+            locals,
+            state,
+            log,
+        ),
     }
 }
 
 // A local, if it is there.
-fn local(rules: Rules, i: u16, locals: &[Value]) -> Result<Option<Operand>, NoMemory>
+#[inline(never)]
+fn local(rules: &Rules, i: u16, locals: &[Value]) -> Result<Option<Operand>, NoMemory>
     requires locals { IsTrue (are_limited locals.now) }
     ensures value { IfOk result (λ r. r ≡ option_map operand.Plain (slice_get locals.now i)) }
     ensures fits { IfOk result (λ r. IfSome r (IsFitting 0)) }
@@ -122,16 +112,16 @@ fn local(rules: Rules, i: u16, locals: &[Value]) -> Result<Option<Operand>, NoMe
 // A value.
 #[cycle(evaluate)]
 pub fn evaluate_value(
-    rules: Rules,
+    rules: &Rules,
     e: &Expr,
     locals: &[Value],
     state: &mut State,
     log: &mut Log,
 ) -> Result<Option<Value>, NoMemory>
-    requires rules { AreFitting rules }
+    requires rules { AreFitting rules.now }
     requires reach { reach_of e.now ≤ 65 }
     requires locals { IsTrue (are_limited locals.now) }
-    ensures gives { IfOk result (λ r. Gives rules.entry (valued (doing_of rules.entry e.now) locals.now) r state.old log.old state.new log.new) }
+    ensures gives { IfOk result (λ r. Gives rules.now (valued (doing_of rules.now e.now) locals.now) r state.old log.old state.new log.new) }
     ensures limited { IfOk result (λ r. IfSome r (λ v. IsTrue (is_limited v))) }
 {
     match evaluate(rules, e, locals, state, log)? {
@@ -144,16 +134,16 @@ pub fn evaluate_value(
 // A number.
 #[cycle(evaluate)]
 fn evaluate_number(
-    rules: Rules,
+    rules: &Rules,
     e: &Expr,
     locals: &[Value],
     state: &mut State,
     log: &mut Log,
 ) -> Result<Option<i64>, NoMemory>
-    requires rules { AreFitting rules }
+    requires rules { AreFitting rules.now }
     requires reach { reach_of e.now ≤ 65 }
     requires locals { IsTrue (are_limited locals.now) }
-    ensures gives { IfOk result (λ r. Gives rules.entry (numbered (doing_of rules.entry e.now) locals.now) r state.old log.old state.new log.new) }
+    ensures gives { IfOk result (λ r. Gives rules.now (numbered (doing_of rules.now e.now) locals.now) r state.old log.old state.new log.new) }
     ensures near { IfOk result (λ r. IfSome r (IsNear (reach_of e.now))) }
 {
     match evaluate(rules, e, locals, state, log)? {
@@ -165,16 +155,16 @@ fn evaluate_number(
 // A bool that is inspected.
 #[cycle(evaluate)]
 pub fn evaluate_flag(
-    rules: Rules,
+    rules: &Rules,
     e: &Expr,
     locals: &[Value],
     state: &mut State,
     log: &mut Log,
 ) -> Result<Option<bool>, NoMemory>
-    requires rules { AreFitting rules }
+    requires rules { AreFitting rules.now }
     requires reach { reach_of e.now ≤ 65 }
     requires locals { IsTrue (are_limited locals.now) }
-    ensures gives { IfOk result (λ r. Gives rules.entry (inspected (doing_of rules.entry e.now) locals.now) r state.old log.old state.new log.new) }
+    ensures gives { IfOk result (λ r. Gives rules.now (inspected (doing_of rules.now e.now) locals.now) r state.old log.old state.new log.new) }
 {
     match evaluate(rules, e, locals, state, log)? {
         Some(o) => {
@@ -188,17 +178,17 @@ pub fn evaluate_flag(
 // The cell of a map at a key.
 #[cycle(evaluate)]
 pub fn evaluate_cell(
-    rules: Rules,
+    rules: &Rules,
     s: u16,
     e: &Expr,
     locals: &[Value],
     state: &mut State,
     log: &mut Log,
 ) -> Result<Option<CellName>, NoMemory>
-    requires rules { AreFitting rules }
+    requires rules { AreFitting rules.now }
     requires reach { reach_of e.now ≤ 65 }
     requires locals { IsTrue (are_limited locals.now) }
-    ensures gives { IfOk result (λ r. Gives rules.entry (cell_of s (Some (doing_of rules.entry e.now)) locals.now) r state.old log.old state.new log.new) }
+    ensures gives { IfOk result (λ r. Gives rules.now (cell_of s (Some (doing_of rules.now e.now)) locals.now) r state.old log.old state.new log.new) }
 {
     match evaluate_value(rules, e, locals, state, log)? {
         Some(key) => Ok(Some(CellName {
@@ -211,14 +201,15 @@ pub fn evaluate_cell(
 
 // A state that is one cell.
 #[cycle(evaluate)]
+#[inline(never)]
 fn read_cell(
-    rules: Rules,
+    rules: &Rules,
     s: u16,
     state: &State,
     log: &mut Log,
 ) -> Result<Option<Operand>, NoMemory>
-    requires rules { AreFitting rules }
-    ensures gives { IfOk result (λ r. Gives rules.entry (read_of s None []) r state.now log.old state.now log.new) }
+    requires rules { AreFitting rules.now }
+    ensures gives { IfOk result (λ r. Gives rules.now (read_of s None []) r state.now log.old state.now log.new) }
     ensures fits { IfOk result (λ r. IfSome r (IsFitting 0)) }
 {
     let cell = CellName {
@@ -233,18 +224,19 @@ fn read_cell(
 
 // A map at a key.
 #[cycle(evaluate)]
+#[inline(never)]
 fn evaluate_read(
-    rules: Rules,
+    rules: &Rules,
     s: u16,
     e: &Expr,
     locals: &[Value],
     state: &mut State,
     log: &mut Log,
 ) -> Result<Option<Operand>, NoMemory>
-    requires rules { AreFitting rules }
+    requires rules { AreFitting rules.now }
     requires reach { reach_of e.now ≤ 65 }
     requires locals { IsTrue (are_limited locals.now) }
-    ensures gives { IfOk result (λ r. Gives rules.entry (read_of s (Some (doing_of rules.entry e.now)) locals.now) r state.old log.old state.new log.new) }
+    ensures gives { IfOk result (λ r. Gives rules.now (read_of s (Some (doing_of rules.now e.now)) locals.now) r state.old log.old state.new log.new) }
     ensures fits { IfOk result (λ r. IfSome r (IsFitting (reach_of e.now))) }
 {
     match evaluate_cell(rules, s, e, locals, state, log)? {
@@ -258,18 +250,19 @@ fn evaluate_read(
 
 // A field of a field and so on.
 #[cycle(evaluate)]
+#[inline(never)]
 fn evaluate_fields(
-    rules: Rules,
+    rules: &Rules,
     e: &Expr,
     path: &[u16],
     locals: &[Value],
     state: &mut State,
     log: &mut Log,
 ) -> Result<Option<Operand>, NoMemory>
-    requires rules { AreFitting rules }
+    requires rules { AreFitting rules.now }
     requires reach { reach_of e.now ≤ 65 }
     requires locals { IsTrue (are_limited locals.now) }
-    ensures gives { IfOk result (λ r. Gives rules.entry (fields_of (doing_of rules.entry e.now) path.now locals.now) r state.old log.old state.new log.new) }
+    ensures gives { IfOk result (λ r. Gives rules.now (fields_of (doing_of rules.now e.now) path.now locals.now) r state.old log.old state.new log.new) }
     ensures fits { IfOk result (λ r. IfSome r (IsFitting (reach_of e.now))) }
 {
     match evaluate_value(rules, e, locals, state, log)? {
@@ -283,19 +276,43 @@ fn evaluate_fields(
 
 // A record with some fields replaced.
 #[cycle(evaluate)]
+#[inline(never)]
 fn evaluate_with(
-    rules: Rules,
+    rules: &Rules,
+    sets: &[SetField],
+    e: &Expr,
+    locals: &[Value],
+    state: &mut State,
+    log: &mut Log,
+) -> Result<Option<Operand>, NoMemory>
+    requires rules { AreFitting rules.now }
+    requires reach { reach_of e.now ≤ 65 }
+    requires sets { sets_reach sets.now ≤ 65 }
+    requires locals { IsTrue (are_limited locals.now) }
+    ensures gives { IfOk result (λ r. Gives rules.now (with_of (doing_of rules.now e.now) (sets_in rules.now sets.now) locals.now) r state.old log.old state.new log.new) }
+    ensures fits { IfOk result (λ r. IfSome r (IsFitting (sets_reach sets.now))) }
+{
+    match evaluate_value(rules, e, locals, state, log)? {
+        Some(v) => evaluate_replaced(rules, sets, v, locals, state, log),
+        None => Ok(None),
+    }
+}
+
+// A value with some fields replaced.
+#[cycle(evaluate)]
+fn evaluate_replaced(
+    rules: &Rules,
     sets: &[SetField],
     of: Value,
     locals: &[Value],
     state: &mut State,
     log: &mut Log,
 ) -> Result<Option<Operand>, NoMemory>
-    requires rules { AreFitting rules }
+    requires rules { AreFitting rules.now }
     requires of { IsTrue (is_limited of) }
     requires reach { sets_reach sets.now ≤ 65 }
     requires locals { IsTrue (are_limited locals.now) }
-    ensures gives { IfOk result (λ r. Gives rules.entry (replaced_of of (sets_in rules.entry sets.now) locals.now) r state.old log.old state.new log.new) }
+    ensures gives { IfOk result (λ r. Gives rules.now (replaced_of of (sets_in rules.now sets.now) locals.now) r state.old log.old state.new log.new) }
     ensures fits { IfOk result (λ r. IfSome r (IsFitting (sets_reach sets.now))) }
 {
     match evaluate_sets(rules, sets, of, locals, state, log)? {
@@ -307,18 +324,18 @@ fn evaluate_with(
 // The new values of fields, each put into the record.
 #[cycle(evaluate)]
 fn evaluate_sets(
-    rules: Rules,
+    rules: &Rules,
     sets: &[SetField],
     of: Value,
     locals: &[Value],
     state: &mut State,
     log: &mut Log,
 ) -> Result<Option<Value>, NoMemory>
-    requires rules { AreFitting rules }
+    requires rules { AreFitting rules.now }
     requires of { IsTrue (is_limited of) }
     requires reach { sets_reach sets.now ≤ 65 }
     requires locals { IsTrue (are_limited locals.now) }
-    ensures gives { IfOk result (λ r. Gives rules.entry (sets_of of (sets_in rules.entry sets.now) locals.now) r state.old log.old state.new log.new) }
+    ensures gives { IfOk result (λ r. Gives rules.now (sets_of of (sets_in rules.now sets.now) locals.now) r state.old log.old state.new log.new) }
     ensures limited { IfOk result (λ r. IfSome r (λ v. IsTrue (is_limited v))) }
 {
     let mut record = of;
@@ -337,16 +354,16 @@ fn evaluate_sets(
 // Values in order.
 #[cycle(evaluate)]
 fn evaluate_values(
-    rules: Rules,
+    rules: &Rules,
     es: &[Expr],
     locals: &[Value],
     state: &mut State,
     log: &mut Log,
 ) -> Result<Option<Vals>, NoMemory>
-    requires rules { AreFitting rules }
+    requires rules { AreFitting rules.now }
     requires reach { exprs_reach es.now ≤ 65 }
     requires locals { IsTrue (are_limited locals.now) }
-    ensures gives { IfOk result (λ r. Gives rules.entry (values_of [] (map (doing_of rules.entry) es.now) locals.now) r state.old log.old state.new log.new) }
+    ensures gives { IfOk result (λ r. Gives rules.now (values_of [] (map (doing_of rules.now) es.now) locals.now) r state.old log.old state.new log.new) }
     ensures limited { IfOk result (λ r. IfSome r (λ vs. IsTrue (are_limited vs))) }
 {
     let mut values = List::new(rules.alloc);
@@ -361,17 +378,18 @@ fn evaluate_values(
 
 // A record.
 #[cycle(evaluate)]
+#[inline(never)]
 fn evaluate_make(
-    rules: Rules,
+    rules: &Rules,
     es: &[Expr],
     locals: &[Value],
     state: &mut State,
     log: &mut Log,
 ) -> Result<Option<Operand>, NoMemory>
-    requires rules { AreFitting rules }
+    requires rules { AreFitting rules.now }
     requires reach { exprs_reach es.now ≤ 65 }
     requires locals { IsTrue (are_limited locals.now) }
-    ensures gives { IfOk result (λ r. Gives rules.entry (make_of (map (doing_of rules.entry) es.now) locals.now) r state.old log.old state.new log.new) }
+    ensures gives { IfOk result (λ r. Gives rules.now (make_of (map (doing_of rules.now) es.now) locals.now) r state.old log.old state.new log.new) }
     ensures fits { IfOk result (λ r. IfSome r (IsFitting (exprs_reach es.now))) }
 {
     match evaluate_values(rules, es, locals, state, log)? {
@@ -382,17 +400,18 @@ fn evaluate_make(
 
 // An option with a payload.
 #[cycle(evaluate)]
+#[inline(never)]
 fn evaluate_some(
-    rules: Rules,
+    rules: &Rules,
     e: &Expr,
     locals: &[Value],
     state: &mut State,
     log: &mut Log,
 ) -> Result<Option<Operand>, NoMemory>
-    requires rules { AreFitting rules }
+    requires rules { AreFitting rules.now }
     requires reach { reach_of e.now ≤ 65 }
     requires locals { IsTrue (are_limited locals.now) }
-    ensures gives { IfOk result (λ r. Gives rules.entry (some_of (doing_of rules.entry e.now) locals.now) r state.old log.old state.new log.new) }
+    ensures gives { IfOk result (λ r. Gives rules.now (some_of (doing_of rules.now e.now) locals.now) r state.old log.old state.new log.new) }
     ensures fits { IfOk result (λ r. IfSome r (IsFitting (reach_of e.now))) }
 {
     match evaluate_value(rules, e, locals, state, log)? {
@@ -406,19 +425,20 @@ fn evaluate_some(
 
 // A sum.
 #[cycle(evaluate)]
+#[inline(never)]
 fn evaluate_shift(
-    rules: Rules,
+    rules: &Rules,
     e: &Expr,
     by: i64,
     locals: &[Value],
     state: &mut State,
     log: &mut Log,
 ) -> Result<Option<Operand>, NoMemory>
-    requires rules { AreFitting rules }
+    requires rules { AreFitting rules.now }
     requires reach { 1 + reach_of e.now ≤ 65 }
     requires by { IsTrue (is_number by) }
     requires locals { IsTrue (are_limited locals.now) }
-    ensures gives { IfOk result (λ r. Gives rules.entry (shift_of (doing_of rules.entry e.now) by locals.now) r state.old log.old state.new log.new) }
+    ensures gives { IfOk result (λ r. Gives rules.now (shift_of (doing_of rules.now e.now) by locals.now) r state.old log.old state.new log.new) }
     ensures fits { IfOk result (λ r. IfSome r (IsFitting (1 + reach_of e.now))) }
 {
     match evaluate_number(rules, e, locals, state, log)? {
@@ -429,18 +449,19 @@ fn evaluate_shift(
 
 // A number as one of an integer type.
 #[cycle(evaluate)]
+#[inline(never)]
 fn evaluate_into(
-    rules: Rules,
+    rules: &Rules,
     e: &Expr,
     int: u16,
     locals: &[Value],
     state: &mut State,
     log: &mut Log,
 ) -> Result<Option<Operand>, NoMemory>
-    requires rules { AreFitting rules }
+    requires rules { AreFitting rules.now }
     requires reach { reach_of e.now ≤ 65 }
     requires locals { IsTrue (are_limited locals.now) }
-    ensures gives { IfOk result (λ r. Gives rules.entry (into_of (slice_get rules.entry.ints.now int) (doing_of rules.entry e.now) locals.now) r state.old log.old state.new log.new) }
+    ensures gives { IfOk result (λ r. Gives rules.now (into_of (slice_get rules.now.ints.now int) (doing_of rules.now e.now) locals.now) r state.old log.old state.new log.new) }
     ensures fits { IfOk result (λ r. IfSome r (IsFitting (reach_of e.now))) }
 {
     match evaluate_number(rules, e, locals, state, log)? {
@@ -454,8 +475,9 @@ fn evaluate_into(
 
 // A comparison.
 #[cycle(evaluate)]
+#[inline(never)]
 fn evaluate_compare(
-    rules: Rules,
+    rules: &Rules,
     left: &Expr,
     right: &Expr,
     op: Op,
@@ -463,10 +485,10 @@ fn evaluate_compare(
     state: &mut State,
     log: &mut Log,
 ) -> Result<Option<Operand>, NoMemory>
-    requires rules { AreFitting rules }
+    requires rules { AreFitting rules.now }
     requires reach { max (reach_of left.now) (reach_of right.now) ≤ 65 }
     requires locals { IsTrue (are_limited locals.now) }
-    ensures gives { IfOk result (λ r. Gives rules.entry (compare_of op (doing_of rules.entry left.now) (doing_of rules.entry right.now) locals.now) r state.old log.old state.new log.new) }
+    ensures gives { IfOk result (λ r. Gives rules.now (compare_of op (doing_of rules.now left.now) (doing_of rules.now right.now) locals.now) r state.old log.old state.new log.new) }
     ensures fits { IfOk result (λ r. IfSome r (IsFitting (max (reach_of left.now) (reach_of right.now)))) }
 {
     match evaluate(rules, left, locals, state, log)? {
@@ -483,17 +505,18 @@ fn evaluate_compare(
 
 // Operands in order until one is false.
 #[cycle(evaluate)]
+#[inline(never)]
 fn evaluate_all(
-    rules: Rules,
+    rules: &Rules,
     es: &[Expr],
     locals: &[Value],
     state: &mut State,
     log: &mut Log,
 ) -> Result<Option<bool>, NoMemory>
-    requires rules { AreFitting rules }
+    requires rules { AreFitting rules.now }
     requires reach { exprs_reach es.now ≤ 65 }
     requires locals { IsTrue (are_limited locals.now) }
-    ensures gives { IfOk result (λ r. Gives rules.entry (all_of (map (doing_of rules.entry) es.now) locals.now) r state.old log.old state.new log.new) }
+    ensures gives { IfOk result (λ r. Gives rules.now (all_of (map (doing_of rules.now) es.now) locals.now) r state.old log.old state.new log.new) }
 {
     for e in es {
         match evaluate_flag(rules, e, locals, state, log)? {
@@ -507,17 +530,18 @@ fn evaluate_all(
 
 // Operands in order until one is true.
 #[cycle(evaluate)]
+#[inline(never)]
 fn evaluate_any(
-    rules: Rules,
+    rules: &Rules,
     es: &[Expr],
     locals: &[Value],
     state: &mut State,
     log: &mut Log,
 ) -> Result<Option<bool>, NoMemory>
-    requires rules { AreFitting rules }
+    requires rules { AreFitting rules.now }
     requires reach { exprs_reach es.now ≤ 65 }
     requires locals { IsTrue (are_limited locals.now) }
-    ensures gives { IfOk result (λ r. Gives rules.entry (any_of (map (doing_of rules.entry) es.now) locals.now) r state.old log.old state.new log.new) }
+    ensures gives { IfOk result (λ r. Gives rules.now (any_of (map (doing_of rules.now) es.now) locals.now) r state.old log.old state.new log.new) }
 {
     for e in es {
         match evaluate_flag(rules, e, locals, state, log)? {
@@ -531,17 +555,18 @@ fn evaluate_any(
 
 // Negation.
 #[cycle(evaluate)]
+#[inline(never)]
 fn evaluate_not(
-    rules: Rules,
+    rules: &Rules,
     e: &Expr,
     locals: &[Value],
     state: &mut State,
     log: &mut Log,
 ) -> Result<Option<Operand>, NoMemory>
-    requires rules { AreFitting rules }
+    requires rules { AreFitting rules.now }
     requires reach { reach_of e.now ≤ 65 }
     requires locals { IsTrue (are_limited locals.now) }
-    ensures gives { IfOk result (λ r. Gives rules.entry (not_of (doing_of rules.entry e.now) locals.now) r state.old log.old state.new log.new) }
+    ensures gives { IfOk result (λ r. Gives rules.now (not_of (doing_of rules.now e.now) locals.now) r state.old log.old state.new log.new) }
     ensures fits { IfOk result (λ r. IfSome r (IsFitting (reach_of e.now))) }
 {
     match evaluate_flag(rules, e, locals, state, log)? {
@@ -552,18 +577,19 @@ fn evaluate_not(
 
 // A function on its arguments.
 #[cycle(evaluate)]
+#[inline(never)]
 fn evaluate_apply(
-    rules: Rules,
+    rules: &Rules,
     es: &[Expr],
     fun: u16,
     locals: &[Value],
     state: &mut State,
     log: &mut Log,
 ) -> Result<Option<Operand>, NoMemory>
-    requires rules { AreFitting rules }
+    requires rules { AreFitting rules.now }
     requires reach { exprs_reach es.now ≤ 65 }
     requires locals { IsTrue (are_limited locals.now) }
-    ensures gives { IfOk result (λ r. Gives rules.entry (apply_of (fun_at (funs_of rules.entry) fun) (map (doing_of rules.entry) es.now) locals.now) r state.old log.old state.new log.new) }
+    ensures gives { IfOk result (λ r. Gives rules.now (apply_of (fun_at (funs_of rules.now) fun) (map (doing_of rules.now) es.now) locals.now) r state.old log.old state.new log.new) }
     ensures fits { IfOk result (λ r. IfSome r (IsFitting (exprs_reach es.now))) }
 {
     match evaluate_values(rules, es, locals, state, log)? {

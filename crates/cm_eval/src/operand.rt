@@ -81,12 +81,12 @@ pub fn as_flag(b: Option<bool>) -> Option<Operand>
 
 /// The inspection of a bool.
 pub fn inspect(
-    rules: Rules,
+    rules: &Rules,
     o: &Operand,
     state: &State,
     log: &mut Log,
 ) -> Result<Option<bool>, NoMemory>
-    ensures gives { IfOk result (λ r. Gives rules.entry (inspects o.now) r state.now log.old state.now log.new) }
+    ensures gives { IfOk result (λ r. Gives rules.now (inspects o.now) r state.now log.old state.now log.new) }
 {
     match flag_in(o) {
         Some(true) => {
@@ -103,14 +103,14 @@ pub fn inspect(
 
 /// Two operands by one of the six comparisons.
 pub fn compare_by(
-    rules: Rules,
+    rules: &Rules,
     op: Op,
     left: &Operand,
     right: &Operand,
     state: &State,
     log: &mut Log,
 ) -> Result<Option<bool>, NoMemory>
-    ensures gives { IfOk result (λ r. Gives rules.entry (compares_by op left.now right.now) r state.now log.old state.now log.new) }
+    ensures gives { IfOk result (λ r. Gives rules.now (compares_by op left.now right.now) r state.now log.old state.now log.new) }
 {
     match op {
         Op::Eq => {
@@ -142,13 +142,13 @@ pub fn compare_by(
 
 // Whether two operands differ.
 fn differ(
-    rules: Rules,
+    rules: &Rules,
     left: &Operand,
     right: &Operand,
     state: &State,
     log: &mut Log,
 ) -> Result<Option<bool>, NoMemory>
-    ensures gives { IfOk result (λ r. Gives rules.entry (λ k. compares left.now right.now (λ s. k (not s))) r state.now log.old state.now log.new) }
+    ensures gives { IfOk result (λ r. Gives rules.now (λ k. compares left.now right.now (λ s. k (not s))) r state.now log.old state.now log.new) }
 {
     match compare_operands(rules, left, right, state, log)? {
         Some(s) => Ok(Some(!s)),
@@ -158,13 +158,13 @@ fn differ(
 
 // Two values by their type, or two numbers.
 fn compare_operands(
-    rules: Rules,
+    rules: &Rules,
     left: &Operand,
     right: &Operand,
     state: &State,
     log: &mut Log,
 ) -> Result<Option<bool>, NoMemory>
-    ensures gives { IfOk result (λ r. Gives rules.entry (compares left.now right.now) r state.now log.old state.now log.new) }
+    ensures gives { IfOk result (λ r. Gives rules.now (compares left.now right.now) r state.now log.old state.now log.new) }
 {
     match (left, right) {
         (Operand::Plain(v), Operand::Plain(w)) => {
@@ -184,13 +184,13 @@ fn compare_operands(
 
 // Two values by their type.
 fn compare_values(
-    rules: Rules,
+    rules: &Rules,
     left: &Value,
     right: &Value,
     state: &State,
     log: &mut Log,
 ) -> Result<Option<bool>, NoMemory>
-    ensures gives { IfOk result (λ r. Gives rules.entry (comparison Doing Blocks Decides left.now right.now) r state.now log.old state.now log.new) }
+    ensures gives { IfOk result (λ r. Gives rules.now (comparison Doing Blocks Decides left.now right.now) r state.now log.old state.now log.new) }
 {
     let r = compare(left, right, &mut log.steps)?;
     Ok(r)
@@ -198,13 +198,13 @@ fn compare_values(
 
 // Whether two numbers are equal.
 fn are_equal(
-    rules: Rules,
+    rules: &Rules,
     left: &Operand,
     right: &Operand,
     state: &State,
     log: &mut Log,
 ) -> Result<Option<bool>, NoMemory>
-    ensures gives { IfOk result (λ r. Gives rules.entry (λ k. orders left.now right.now (λ d. k (d == 1))) r state.now log.old state.now log.new) }
+    ensures gives { IfOk result (λ r. Gives rules.now (λ k. orders left.now right.now (λ d. k (d == 1))) r state.now log.old state.now log.new) }
 {
     match order_operands(rules, left, right, state, log)? {
         Some(d) => Ok(Some(d == 1)),
@@ -214,13 +214,13 @@ fn are_equal(
 
 // The order of two numbers.
 fn order_operands(
-    rules: Rules,
+    rules: &Rules,
     left: &Operand,
     right: &Operand,
     state: &State,
     log: &mut Log,
 ) -> Result<Option<u8>, NoMemory>
-    ensures gives { IfOk result (λ r. Gives rules.entry (orders left.now right.now) r state.now log.old state.now log.new) }
+    ensures gives { IfOk result (λ r. Gives rules.now (orders left.now right.now) r state.now log.old state.now log.new) }
 {
     match number(left) {
         Some(m) => match number(right) {
@@ -237,14 +237,14 @@ fn order_operands(
 
 /// A number as one of an integer type, where it is one.
 pub fn convert(
-    rules: Rules,
+    rules: &Rules,
     int: u16,
     n: i64,
     state: &State,
     log: &mut Log,
 ) -> Result<Option<Operand>, NoMemory>
-    requires ranges { IsTrue (list_all is_range rules.ints.now) }
-    ensures gives { IfOk result (λ r. Gives rules.entry (into_type (slice_get rules.entry.ints.now int) n) r state.now log.old state.now log.new) }
+    requires ranges { IsTrue (list_all is_range rules.now.ints.now) }
+    ensures gives { IfOk result (λ r. Gives rules.now (into_type (slice_get rules.now.ints.now int) n) r state.now log.old state.now log.new) }
     ensures fits { IfOk result (λ r. IfSome r (IsFitting 0)) }
 {
     match rules.ints.get(usize::from(int)) {
@@ -274,7 +274,7 @@ fn range(d: &IntDecl, n: i64) -> u8
 }
 
 /// The value at the end of a path of fields.
-pub fn field(rules: Rules, v: &Value, path: &[u16]) -> Result<Option<Operand>, NoMemory>
+pub fn field(rules: &Rules, v: &Value, path: &[u16]) -> Result<Option<Operand>, NoMemory>
     requires limited { IsTrue (is_limited v.now) }
     ensures field { IfOk result (λ r. r ≡ option_map operand.Plain (value_at (Some v.now) path.now)) }
     ensures fits { IfOk result (λ r. IfSome r (IsFitting 0)) }

@@ -19,15 +19,15 @@ use cm_value::{Vals, Value};
 /// A function on its arguments.
 #[cycle(evaluate)]
 pub fn call_function(
-    rules: Rules,
+    rules: &Rules,
     fun: u16,
     args: Vals,
     state: &mut State,
     log: &mut Log,
 ) -> Result<Option<Value>, NoMemory>
-    requires rules { AreFitting rules }
+    requires rules { AreFitting rules.now }
     requires args { IsTrue (are_limited args) }
-    ensures gives { IfOk result (λ r. Gives rules.entry (fun_at (funs_of rules.entry) fun args) r state.old log.old state.new log.new) }
+    ensures gives { IfOk result (λ r. Gives rules.now (fun_at (funs_of rules.now) fun args) r state.old log.old state.new log.new) }
     ensures limited { IfOk result (λ r. IfSome r (λ v. IsTrue (is_limited v))) }
 {
     let at = usize::from(fun);
@@ -40,23 +40,23 @@ pub fn call_function(
         funs: &rules.funs[..at],
         states: rules.states,
     };
-    let r = run_body(before, rules.funs[at].body.as_slice(), args, state, log)?;
+    let r = run_body(&before, rules.funs[at].body.as_slice(), args, state, log)?;
     Ok(r)
 }
 
 /// The body of a function or call on its arguments.
 #[cycle(evaluate)]
 pub fn run_body(
-    rules: Rules,
+    rules: &Rules,
     body: &[Stmt],
     args: Vals,
     state: &mut State,
     log: &mut Log,
 ) -> Result<Option<Value>, NoMemory>
-    requires rules { AreFitting rules }
+    requires rules { AreFitting rules.now }
     requires reach { body_reach body.now ≤ 65 }
     requires args { IsTrue (are_limited args) }
-    ensures gives { IfOk result (λ r. Gives rules.entry (body_of rules.entry.ints.now (funs_of rules.entry) body.now args) r state.old log.old state.new log.new) }
+    ensures gives { IfOk result (λ r. Gives rules.now (body_of rules.now.ints.now (funs_of rules.now) body.now args) r state.old log.old state.new log.new) }
     ensures limited { IfOk result (λ r. IfSome r (λ v. IsTrue (is_limited v))) }
 {
     let mut locals = args;
@@ -70,16 +70,16 @@ pub fn run_body(
 // Statements in order.
 #[cycle(evaluate)]
 fn run_block(
-    rules: Rules,
+    rules: &Rules,
     body: &[Stmt],
     locals: &mut Vals,
     state: &mut State,
     log: &mut Log,
 ) -> Result<Flow, NoMemory>
-    requires rules { AreFitting rules }
+    requires rules { AreFitting rules.now }
     requires reach { body_reach body.now ≤ 65 }
     requires locals { IsTrue (are_limited locals.old) }
-    ensures gives { IfOk result (λ f. GivesTurn rules.entry (block_in rules.entry body.now) f locals.old locals.new state.old log.old state.new log.new) }
+    ensures gives { IfOk result (λ f. GivesTurn rules.now (block_in rules.now body.now) f locals.old locals.new state.old log.old state.new log.new) }
     ensures limited { IfOk result IsLimitedFlow }
     ensures locals { OnOk result (IsTrue (are_limited locals.new)) }
     ensures outer { OnOk result (take (length locals.old) locals.new ≡ locals.old) }
@@ -97,16 +97,16 @@ fn run_block(
 // A statement.
 #[cycle(evaluate)]
 fn run_statement(
-    rules: Rules,
+    rules: &Rules,
     s: &Stmt,
     locals: &mut Vals,
     state: &mut State,
     log: &mut Log,
 ) -> Result<Flow, NoMemory>
-    requires rules { AreFitting rules }
+    requires rules { AreFitting rules.now }
     requires reach { stmt_reach s.now ≤ 65 }
     requires locals { IsTrue (are_limited locals.old) }
-    ensures gives { IfOk result (λ f. GivesTurn rules.entry (turn_in rules.entry s.now) f locals.old locals.new state.old log.old state.new log.new) }
+    ensures gives { IfOk result (λ f. GivesTurn rules.now (turn_in rules.now s.now) f locals.old locals.new state.old log.old state.new log.new) }
     ensures limited { IfOk result IsLimitedFlow }
     ensures locals { OnOk result (IsTrue (are_limited locals.new)) }
     ensures outer { OnOk result (take (length locals.old) locals.new ≡ locals.old) }
@@ -163,17 +163,18 @@ fn run_statement(
 
 // A value gets a name: it is the next local.
 #[cycle(evaluate)]
+#[inline(never)]
 fn run_let(
-    rules: Rules,
+    rules: &Rules,
     e: &Expr,
     locals: &mut Vals,
     state: &mut State,
     log: &mut Log,
 ) -> Result<Flow, NoMemory>
-    requires rules { AreFitting rules }
+    requires rules { AreFitting rules.now }
     requires reach { reach_of e.now ≤ 65 }
     requires locals { IsTrue (are_limited locals.old) }
-    ensures gives { IfOk result (λ f. GivesTurn rules.entry (let_of (doing_of rules.entry e.now)) f locals.old locals.new state.old log.old state.new log.new) }
+    ensures gives { IfOk result (λ f. GivesTurn rules.now (let_of (doing_of rules.now e.now)) f locals.old locals.new state.old log.old state.new log.new) }
     ensures limited { IfOk result IsLimitedFlow }
     ensures locals { OnOk result (IsTrue (are_limited locals.new)) }
     ensures outer { OnOk result (take (length locals.old) locals.new ≡ locals.old) }
@@ -189,8 +190,9 @@ fn run_let(
 
 // An assignment.
 #[cycle(evaluate)]
+#[inline(never)]
 fn run_set(
-    rules: Rules,
+    rules: &Rules,
     s: u16,
     key: &Option<Expr>,
     e: &Expr,
@@ -198,11 +200,11 @@ fn run_set(
     state: &mut State,
     log: &mut Log,
 ) -> Result<Flow, NoMemory>
-    requires rules { AreFitting rules }
+    requires rules { AreFitting rules.now }
     requires key { key_reach key.now ≤ 65 }
     requires reach { reach_of e.now ≤ 65 }
     requires locals { IsTrue (are_limited locals.now) }
-    ensures gives { IfOk result (λ f. GivesTurn rules.entry (set_of s (key_doing rules.entry key.now) (doing_of rules.entry e.now)) f locals.now locals.now state.old log.old state.new log.new) }
+    ensures gives { IfOk result (λ f. GivesTurn rules.now (set_of s (key_doing rules.now key.now) (doing_of rules.now e.now)) f locals.now locals.now state.old log.old state.new log.new) }
     ensures limited { IfOk result IsLimitedFlow }
 {
     match key {
@@ -226,18 +228,19 @@ fn run_set(
 
 // The right side of an assignment, and the write.
 #[cycle(evaluate)]
+#[inline(never)]
 fn run_write(
-    rules: Rules,
+    rules: &Rules,
     cell: CellName,
     e: &Expr,
     locals: &[Value],
     state: &mut State,
     log: &mut Log,
 ) -> Result<Flow, NoMemory>
-    requires rules { AreFitting rules }
+    requires rules { AreFitting rules.now }
     requires reach { reach_of e.now ≤ 65 }
     requires locals { IsTrue (are_limited locals.now) }
-    ensures gives { IfOk result (λ f. GivesTurn rules.entry (write_of cell (doing_of rules.entry e.now)) f locals.now locals.now state.old log.old state.new log.new) }
+    ensures gives { IfOk result (λ f. GivesTurn rules.now (write_of cell (doing_of rules.now e.now)) f locals.now locals.now state.old log.old state.new log.new) }
     ensures limited { IfOk result IsLimitedFlow }
 {
     match evaluate_value(rules, e, locals, state, log)? {
@@ -253,17 +256,18 @@ fn run_write(
 
 // A block whose locals end with it.
 #[cycle(evaluate)]
+#[inline(never)]
 fn run_branch(
-    rules: Rules,
+    rules: &Rules,
     body: &[Stmt],
     locals: &mut Vals,
     state: &mut State,
     log: &mut Log,
 ) -> Result<Flow, NoMemory>
-    requires rules { AreFitting rules }
+    requires rules { AreFitting rules.now }
     requires reach { body_reach body.now ≤ 65 }
     requires locals { IsTrue (are_limited locals.old) }
-    ensures gives { IfOk result (λ f. GivesTurn rules.entry (branch_of (map (turn_in rules.entry) body.now)) f locals.old locals.new state.old log.old state.new log.new) }
+    ensures gives { IfOk result (λ f. GivesTurn rules.now (branch_of (map (turn_in rules.now) body.now)) f locals.old locals.new state.old log.old state.new log.new) }
     ensures limited { IfOk result IsLimitedFlow }
     ensures locals { OnOk result (locals.new ≡ locals.old) }
 {
@@ -275,17 +279,18 @@ fn run_branch(
 
 // An option that is inspected.
 #[cycle(evaluate)]
+#[inline(never)]
 fn evaluate_option(
-    rules: Rules,
+    rules: &Rules,
     e: &Expr,
     locals: &[Value],
     state: &mut State,
     log: &mut Log,
 ) -> Result<Option<Option<Value>>, NoMemory>
-    requires rules { AreFitting rules }
+    requires rules { AreFitting rules.now }
     requires reach { reach_of e.now ≤ 65 }
     requires locals { IsTrue (are_limited locals.now) }
-    ensures gives { IfOk result (λ r. Gives rules.entry (opened (doing_of rules.entry e.now) locals.now) r state.old log.old state.new log.new) }
+    ensures gives { IfOk result (λ r. Gives rules.now (opened (doing_of rules.now e.now) locals.now) r state.old log.old state.new log.new) }
     ensures limited { IfOk result (λ r. IfSome r (λ o. IfSome o (λ v. IsTrue (is_limited v)))) }
 {
     match evaluate_value(rules, e, locals, state, log)? {
@@ -299,13 +304,13 @@ fn evaluate_option(
 
 // The inspection of an option, which gives its payload.
 fn open_option(
-    rules: Rules,
+    rules: &Rules,
     v: Value,
     state: &State,
     log: &mut Log,
 ) -> Result<Option<Option<Value>>, NoMemory>
     requires limited { IsTrue (is_limited v) }
-    ensures gives { IfOk result (λ r. Gives rules.entry (opens (option_of v)) r state.now log.old state.now log.new) }
+    ensures gives { IfOk result (λ r. Gives rules.now (opens (option_of v)) r state.now log.old state.now log.new) }
     ensures limited { IfOk result (λ r. IfSome r (λ o. IfSome o (λ w. IsTrue (is_limited w)))) }
 {
     match v {
@@ -323,19 +328,20 @@ fn open_option(
 
 // The block of a payload.
 #[cycle(evaluate)]
+#[inline(never)]
 fn run_some(
-    rules: Rules,
+    rules: &Rules,
     v: Value,
     body: &[Stmt],
     locals: &mut Vals,
     state: &mut State,
     log: &mut Log,
 ) -> Result<Flow, NoMemory>
-    requires rules { AreFitting rules }
+    requires rules { AreFitting rules.now }
     requires value { IsTrue (is_limited v) }
     requires reach { body_reach body.now ≤ 65 }
     requires locals { IsTrue (are_limited locals.old) }
-    ensures gives { IfOk result (λ f. GivesTurn rules.entry (some_branch_of v (map (turn_in rules.entry) body.now)) f locals.old locals.new state.old log.old state.new log.new) }
+    ensures gives { IfOk result (λ f. GivesTurn rules.now (some_branch_of v (map (turn_in rules.now) body.now)) f locals.old locals.new state.old log.old state.new log.new) }
     ensures limited { IfOk result IsLimitedFlow }
     ensures locals { OnOk result (locals.new ≡ locals.old) }
 {
@@ -348,17 +354,18 @@ fn run_some(
 
 // A condition without which the run is blocked.
 #[cycle(evaluate)]
+#[inline(never)]
 fn run_assume(
-    rules: Rules,
+    rules: &Rules,
     e: &Expr,
     locals: &[Value],
     state: &mut State,
     log: &mut Log,
 ) -> Result<Flow, NoMemory>
-    requires rules { AreFitting rules }
+    requires rules { AreFitting rules.now }
     requires reach { reach_of e.now ≤ 65 }
     requires locals { IsTrue (are_limited locals.now) }
-    ensures gives { IfOk result (λ f. GivesTurn rules.entry (assume_of (doing_of rules.entry e.now)) f locals.now locals.now state.old log.old state.new log.new) }
+    ensures gives { IfOk result (λ f. GivesTurn rules.now (assume_of (doing_of rules.now e.now)) f locals.now locals.now state.old log.old state.new log.new) }
     ensures limited { IfOk result IsLimitedFlow }
 {
     match evaluate_flag(rules, e, locals, state, log)? {
@@ -370,17 +377,18 @@ fn run_assume(
 
 // The end of a body.
 #[cycle(evaluate)]
+#[inline(never)]
 fn run_return(
-    rules: Rules,
+    rules: &Rules,
     e: &Expr,
     locals: &[Value],
     state: &mut State,
     log: &mut Log,
 ) -> Result<Flow, NoMemory>
-    requires rules { AreFitting rules }
+    requires rules { AreFitting rules.now }
     requires reach { reach_of e.now ≤ 65 }
     requires locals { IsTrue (are_limited locals.now) }
-    ensures gives { IfOk result (λ f. GivesTurn rules.entry (return_of (doing_of rules.entry e.now)) f locals.now locals.now state.old log.old state.new log.new) }
+    ensures gives { IfOk result (λ f. GivesTurn rules.now (return_of (doing_of rules.now e.now)) f locals.now locals.now state.old log.old state.new log.new) }
     ensures limited { IfOk result IsLimitedFlow }
 {
     match evaluate_value(rules, e, locals, state, log)? {

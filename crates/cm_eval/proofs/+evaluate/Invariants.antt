@@ -18,106 +18,109 @@ abbrev pub decreases-cells::touch : goal.decreases-cells::touch
 decreases-cells::touch l = 8 * key_depth l.declared.now.inv + 4
 
 abbrev pub decreases-cells::read : goal.decreases-cells::read
-decreases-cells::read l = load l.rules
+decreases-cells::read l = load l.rules.now
 
 abbrev pub decreases-cells::write : goal.decreases-cells::write
-decreases-cells::write l = load l.rules
+decreases-cells::write l = load l.rules.now
 
 abbrev pub decreases-expr::evaluate : goal.decreases-expr::evaluate
-decreases-expr::evaluate l = 8 * size-Expr l.e.now + load l.rules
+decreases-expr::evaluate l = 8 * size-Expr l.e.now + load l.rules.now
 
 abbrev pub decreases-expr::evaluate_value : goal.decreases-expr::evaluate_value
-decreases-expr::evaluate_value l = 8 * size-Expr l.e.now + 1 + load l.rules
+decreases-expr::evaluate_value l = 8 * size-Expr l.e.now + 1 + load l.rules.now
 
 abbrev pub decreases-expr::evaluate_number : goal.decreases-expr::evaluate_number
-decreases-expr::evaluate_number l = 8 * size-Expr l.e.now + 1 + load l.rules
+decreases-expr::evaluate_number l = 8 * size-Expr l.e.now + 1 + load l.rules.now
 
 abbrev pub decreases-expr::evaluate_flag : goal.decreases-expr::evaluate_flag
-decreases-expr::evaluate_flag l = 8 * size-Expr l.e.now + 1 + load l.rules
+decreases-expr::evaluate_flag l = 8 * size-Expr l.e.now + 1 + load l.rules.now
 
 abbrev pub decreases-expr::evaluate_cell : goal.decreases-expr::evaluate_cell
-decreases-expr::evaluate_cell l = 8 * size-Expr l.e.now + 2 + load l.rules
+decreases-expr::evaluate_cell l = 8 * size-Expr l.e.now + 2 + load l.rules.now
 
 abbrev pub decreases-expr::evaluate_read : goal.decreases-expr::evaluate_read
-decreases-expr::evaluate_read l = 8 * size-Expr l.e.now + 3 + load l.rules
+decreases-expr::evaluate_read l = 8 * size-Expr l.e.now + 3 + load l.rules.now
 
 abbrev pub decreases-expr::evaluate_fields : goal.decreases-expr::evaluate_fields
-decreases-expr::evaluate_fields l = 8 * size-Expr l.e.now + 2 + load l.rules
+decreases-expr::evaluate_fields l = 8 * size-Expr l.e.now + 2 + load l.rules.now
 
 abbrev pub decreases-expr::evaluate_some : goal.decreases-expr::evaluate_some
-decreases-expr::evaluate_some l = 8 * size-Expr l.e.now + 2 + load l.rules
+decreases-expr::evaluate_some l = 8 * size-Expr l.e.now + 2 + load l.rules.now
 
 abbrev pub decreases-expr::evaluate_shift : goal.decreases-expr::evaluate_shift
-decreases-expr::evaluate_shift l = 8 * size-Expr l.e.now + 2 + load l.rules
+decreases-expr::evaluate_shift l = 8 * size-Expr l.e.now + 2 + load l.rules.now
 
 abbrev pub decreases-expr::evaluate_into : goal.decreases-expr::evaluate_into
-decreases-expr::evaluate_into l = 8 * size-Expr l.e.now + 2 + load l.rules
+decreases-expr::evaluate_into l = 8 * size-Expr l.e.now + 2 + load l.rules.now
 
 abbrev pub decreases-expr::evaluate_not : goal.decreases-expr::evaluate_not
-decreases-expr::evaluate_not l = 8 * size-Expr l.e.now + 2 + load l.rules
+decreases-expr::evaluate_not l = 8 * size-Expr l.e.now + 2 + load l.rules.now
 
 abbrev pub decreases-expr::evaluate_all : goal.decreases-expr::evaluate_all
-decreases-expr::evaluate_all l = 8 * goal.size-expr::evaluate_all l + 2 + load l.rules
+decreases-expr::evaluate_all l = 8 * goal.size-expr::evaluate_all l + 2 + load l.rules.now
 
 abbrev pub decreases-expr::evaluate_any : goal.decreases-expr::evaluate_any
-decreases-expr::evaluate_any l = 8 * goal.size-expr::evaluate_any l + 2 + load l.rules
+decreases-expr::evaluate_any l = 8 * goal.size-expr::evaluate_any l + 2 + load l.rules.now
 
 abbrev pub decreases-expr::evaluate_values : goal.decreases-expr::evaluate_values
-decreases-expr::evaluate_values l = 8 * goal.size-expr::evaluate_values l + 2 + load l.rules
+decreases-expr::evaluate_values l = 8 * goal.size-expr::evaluate_values l + 2 + load l.rules.now
 
 abbrev pub decreases-expr::evaluate_make : goal.decreases-expr::evaluate_make
-decreases-expr::evaluate_make l = 8 * goal.size-expr::evaluate_make l + 3 + load l.rules
+decreases-expr::evaluate_make l = 8 * goal.size-expr::evaluate_make l + 3 + load l.rules.now
 
 abbrev pub decreases-expr::evaluate_apply : goal.decreases-expr::evaluate_apply
-decreases-expr::evaluate_apply l = 8 * goal.size-expr::evaluate_apply l + 3 + load l.rules
+decreases-expr::evaluate_apply l = 8 * goal.size-expr::evaluate_apply l + 3 + load l.rules.now
 
 abbrev pub decreases-expr::evaluate_sets : goal.decreases-expr::evaluate_sets
-decreases-expr::evaluate_sets l = 8 * goal.size-expr::evaluate_sets l + 2 + load l.rules
+decreases-expr::evaluate_sets l = 8 * goal.size-expr::evaluate_sets l + 2 + load l.rules.now
 
 abbrev pub decreases-expr::evaluate_with : goal.decreases-expr::evaluate_with
-decreases-expr::evaluate_with l = 8 * goal.size-expr::evaluate_with l + 3 + load l.rules
+decreases-expr::evaluate_with l = 8 * max (goal.size-expr::evaluate_with l) (size-Expr l.e.now) + 4 + load l.rules.now
+
+abbrev pub decreases-expr::evaluate_replaced : goal.decreases-expr::evaluate_replaced
+decreases-expr::evaluate_replaced l = 8 * goal.size-expr::evaluate_replaced l + 3 + load l.rules.now
 
 abbrev pub decreases-expr::evaluate_compare : goal.decreases-expr::evaluate_compare
-decreases-expr::evaluate_compare l = 8 * max (size-Expr l.left.now) (size-Expr l.right.now) + 1 + load l.rules
+decreases-expr::evaluate_compare l = 8 * max (size-Expr l.left.now) (size-Expr l.right.now) + 1 + load l.rules.now
 
 abbrev pub decreases-expr::read_cell : goal.decreases-expr::read_cell
-decreases-expr::read_cell l = 1 + load l.rules
+decreases-expr::read_cell l = 1 + load l.rules.now
 
 abbrev pub decreases-stmt::call_function : goal.decreases-stmt::call_function
-decreases-stmt::call_function l = load l.rules
+decreases-stmt::call_function l = load l.rules.now
 
 abbrev pub decreases-stmt::evaluate_option : goal.decreases-stmt::evaluate_option
-decreases-stmt::evaluate_option l = 8 * size-Expr l.e.now + 2 + load l.rules
+decreases-stmt::evaluate_option l = 8 * size-Expr l.e.now + 2 + load l.rules.now
 
 abbrev pub decreases-stmt::run_let : goal.decreases-stmt::run_let
-decreases-stmt::run_let l = 8 * size-Expr l.e.now + 3 + load l.rules
+decreases-stmt::run_let l = 8 * size-Expr l.e.now + 3 + load l.rules.now
 
 abbrev pub decreases-stmt::run_assume : goal.decreases-stmt::run_assume
-decreases-stmt::run_assume l = 8 * size-Expr l.e.now + 3 + load l.rules
+decreases-stmt::run_assume l = 8 * size-Expr l.e.now + 3 + load l.rules.now
 
 abbrev pub decreases-stmt::run_return : goal.decreases-stmt::run_return
-decreases-stmt::run_return l = 8 * size-Expr l.e.now + 3 + load l.rules
+decreases-stmt::run_return l = 8 * size-Expr l.e.now + 3 + load l.rules.now
 
 abbrev pub decreases-stmt::run_write : goal.decreases-stmt::run_write
-decreases-stmt::run_write l = 8 * size-Expr l.e.now + 2 + load l.rules
+decreases-stmt::run_write l = 8 * size-Expr l.e.now + 2 + load l.rules.now
 
 abbrev pub decreases-stmt::run_set : goal.decreases-stmt::run_set
-decreases-stmt::run_set l = 8 * max (key_depth l.key.now) (size-Expr l.e.now) + 4 + load l.rules
+decreases-stmt::run_set l = 8 * max (key_depth l.key.now) (size-Expr l.e.now) + 4 + load l.rules.now
 
 abbrev pub decreases-stmt::run_statement : goal.decreases-stmt::run_statement
-decreases-stmt::run_statement l = 8 * depth_of l.s.now + 4 + load l.rules
+decreases-stmt::run_statement l = 8 * depth_of l.s.now + 4 + load l.rules.now
 
 abbrev pub decreases-stmt::run_block : goal.decreases-stmt::run_block
-decreases-stmt::run_block l = 8 * block_depth l.body.now + 5 + load l.rules
+decreases-stmt::run_block l = 8 * block_depth l.body.now + 5 + load l.rules.now
 
 abbrev pub decreases-stmt::run_branch : goal.decreases-stmt::run_branch
-decreases-stmt::run_branch l = 8 * block_depth l.body.now + 6 + load l.rules
+decreases-stmt::run_branch l = 8 * block_depth l.body.now + 6 + load l.rules.now
 
 abbrev pub decreases-stmt::run_some : goal.decreases-stmt::run_some
-decreases-stmt::run_some l = 8 * block_depth l.body.now + 6 + load l.rules
+decreases-stmt::run_some l = 8 * block_depth l.body.now + 6 + load l.rules.now
 
 abbrev pub decreases-stmt::run_body : goal.decreases-stmt::run_body
-decreases-stmt::run_body l = 8 * block_depth l.body.now + 6 + load l.rules
+decreases-stmt::run_body l = 8 * block_depth l.body.now + 6 + load l.rules.now
 
 abbrev pub invariant-expr::evaluate_all-loop-e : goal.invariant-expr::evaluate_all-loop-e
 invariant-expr::evaluate_all-loop-e l = (k : Bool → Doing) →

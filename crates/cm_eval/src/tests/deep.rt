@@ -12,6 +12,7 @@ use std::alloc::Global;
 use std::test::Fail;
 
 const FUNCTIONS: u16 = 64;
+
 const BRACKETS: u16 = 62;
 
 fn negation(alloc: Global, e: Expr) -> Result<Expr, NoMemory>
@@ -90,9 +91,16 @@ fn last_replies(alloc: Global, funs: &[Call], v: Value) -> Result<bool, NoMemory
     };
     let mut state = State::empty(alloc);
     let mut log = Log::new(alloc);
-    match call_function(rules, FUNCTIONS - 1, List::new(alloc), &mut state, &mut log)? {
-        Some(reply) => Ok(same(&reply, &v)
-            && log.steps.len() == usize::from(FUNCTIONS) * usize::from(BRACKETS)),
+    match call_function(
+        &rules,
+        FUNCTIONS - 1,
+        List::new(alloc),
+        &mut state,
+        &mut log,
+    )? {
+        Some(reply) => Ok(
+            same(&reply, &v) && log.steps.len() == usize::from(FUNCTIONS) * usize::from(BRACKETS),
+        ),
         None => Ok(false),
     }
 }
