@@ -1,5 +1,5 @@
 -- What each alternative writes.
-use Rattle.std.proofs.Common.{◌≡◌, ℕ, List, ◌∷◌, map, sym, ap, ◌∙◌}
+use Rattle.std.proofs.Common.{◌≡◌, ℕ, List, map, sym, ap, ◌∙◌}
 use Rattle.cm_model.specs.declared.place.Place.{Place}
 use Rattle.cm_syntax.specs.Form.{Form}
 use Rattle.cm_syntax.specs.declared.tree.Num.{Num}

@@ -1,13 +1,12 @@
 -- From the reader's steps to the answer to a whole text.
 use Rattle.std.proofs.Common.{◌≡◌, ℕ, List, [], ◌∷◌, Some, None, Result, Ok, Err, refl, sym, ap, ◌∙◌}
-use Rattle.cm_model.specs.declared.place.Place.{Place}
 use Rattle.cm_tokens.specs.declared.token.Token.{Token}
 use Rattle.cm_tokens.specs.declared.token.Placed.{Placed}
 use Rattle.cm_syntax.specs.declared.tree.Tree.{Tree}
 use Rattle.cm_syntax.specs.declared.fault.SyntaxFault.{SyntaxFault}
 use Rattle.cm_syntax.specs.declared.fault.SyntaxFault.TheVariants as fault
 use Rattle.cm_syntax.specs.Text.{place_of, IsRight, GivesAnswer}
-use Rattle.cm_syntax.specs.Machine.{Text, Values, head, reading, Syntax, Deep, Ahead, Gives, Stops, Answers}
+use Rattle.cm_syntax.specs.Machine.{Text, Values, head, reading, Syntax, Ahead, Gives, Stops, Answers}
 use Rattle.cm_syntax.proofs.Laws.{tree_reads, syntax_is, deep_is}
 use Rattle.cm_syntax.proofs.Exact.{one_right}
 use Rattle.cm_syntax.proofs.Steps.{reads_ok, reads_err}

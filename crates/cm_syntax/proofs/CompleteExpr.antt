@@ -1,13 +1,11 @@
 -- What an expression writes is taken, and the value is the expression with the places where it is written.
-use Rattle.std.proofs.Common.{◌≡◌, ℕ, ◌+◌, ◌-◌, ◌<◌, Bool, true, false, List, [], ◌∷◌, map, length, Option, Some, None, Ok, refl, sym, ap, ◌∙◌, subst, arith, lit<}
+use Rattle.std.proofs.Common.{◌≡◌, ℕ, ◌<◌, Bool, true, false, List, [], ◌∷◌, map, Option, Some, None, refl, sym, ap, ◌∙◌, subst, arith, lit<}
 use Rattle.cm_model.specs.declared.place.Place.{Place}
 use Rattle.cm_tokens.specs.declared.token.Token.{Token}
 use Rattle.cm_tokens.specs.declared.token.Token.TheVariants as token
 use Rattle.cm_tokens.specs.declared.token.Placed.{Placed}
 use Rattle.cm_syntax.specs.declared.mark.Mark.TheVariants as mark
 use Rattle.cm_syntax.specs.declared.tree.Tree.{Tree}
-use Rattle.cm_syntax.specs.declared.tree.Decl.{Decl}
-use Rattle.cm_syntax.specs.declared.tree.Decl.TheVariants as decl
 use Rattle.cm_syntax.specs.declared.tree.Num.{Num}
 use Rattle.cm_syntax.specs.declared.tree.Num.TheVariants.{Digits, Negative}
 use Rattle.cm_syntax.specs.declared.tree.Part.{Part}
@@ -17,11 +15,6 @@ use Rattle.cm_syntax.specs.declared.tree.«Type».TheOpen as type_layer
 use Rattle.cm_syntax.specs.declared.tree.«Type».TheViews.{roll-Type}
 use Rattle.cm_syntax.specs.declared.tree.«Type».TheFolds.{ind-Type, map-Type, fold-roll-Type}
 use Rattle.cm_syntax.specs.declared.tree.Block.{Block}
-use Rattle.cm_syntax.specs.declared.tree.Stmt.{Stmt}
-use Rattle.cm_syntax.specs.declared.tree.Stmt.TheVariants as stmt
-use Rattle.cm_syntax.specs.declared.tree.Stmt.TheOpen as stmt_layer
-use Rattle.cm_syntax.specs.declared.tree.Stmt.TheViews.{roll-Stmt, roll-Block}
-use Rattle.cm_syntax.specs.declared.tree.Stmt.TheFolds.{ind-Block, map-Stmt, map-Block, fold-roll-Stmt, fold-roll-Block}
 use Rattle.cm_syntax.specs.declared.tree.Expr.{Expr}
 use Rattle.cm_syntax.specs.declared.tree.Expr.TheVariants as expr
 use Rattle.cm_syntax.specs.declared.tree.Cmp.{Cmp}
@@ -44,12 +37,11 @@ use Rattle.cm_syntax.specs.declared.tails.Offset.TheVariants as offset
 use Rattle.cm_syntax.specs.declared.tails.RightSide.TheVariants as right
 use Rattle.cm_syntax.specs.declared.tails.Joined.TheVariants as joined
 use Rattle.cm_syntax.specs.Form.{Places, Form, nothing, written, word, part, node, each_after}
-use Rattle.cm_syntax.specs.Spelling.{names_after, listed, each, num_form, type_form, part_form, set_of, post_of, relation_token, sets_form, type_step, cmp_step, expr_step, prim_step, sum_step, unary_step, post_step, set_step, stmt_step, block_step, cmp_form, expr_form, prim_form, sum_form, unary_form, post_form, set_form, stmt_form, block_form, internal_form, decl_form, tree_form}
+use Rattle.cm_syntax.specs.Spelling.{names_after, listed, each, num_form, type_form, part_form, set_of, post_of, relation_token, sets_form, type_step, cmp_step, expr_step, prim_step, sum_step, unary_step, post_step, set_step, cmp_form, expr_form, prim_form, sum_form, unary_form, post_form, set_form, internal_form}
 use Rattle.cm_syntax.specs.Text.{place_of}
 use Rattle.cm_syntax.specs.Machine as m
 use Rattle.cm_syntax.specs.Machine.{Symbol, Exactly, AName, ANumber, ANum, AType, APart, MoreParts, Params, Internals, MoreNames, Key, Where, ADecl, Decls, ABlock, Stmts, AStmt, Index, Else, AnExpr, MoreCmps, Ands, Ors, ACmp, Right, ASum, AnOffset, AUnary, APost, Fields, With, MoreSets, ASet, APrim, BehindName, Args, MoreArgs, Text, ValueOf, Stack, Values, Shift, Takes, Ends, Fails, mapped, shift, running, ended, moved, Answer, head, part_of, after_name, sum_of, cmp_of, expr_of, assign_of, if_of, block_of, state_of, tree_of, no_close_round, no_close_curly, no_end, no_not}
 use Rattle.cm_syntax.proofs.NextToken as test
-use Rattle.cm_syntax.proofs.ListSteps as lists
 use Rattle.cm_syntax.proofs.Skips as skips
 
 -- a mapped step at the head is a mapped run

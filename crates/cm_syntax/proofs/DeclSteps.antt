@@ -1,44 +1,20 @@
 -- How the reader's steps add up. What stands for declarations and a whole text.
-use Rattle.std.proofs.Common.{◌≡◌, ℕ, true, false, List, [], ◌∷◌, Option, Some, None, refl, ap, ◌∙◌}
+use Rattle.std.proofs.Common.{◌≡◌, ℕ, List, ◌∷◌, Option, Some, refl, ap, ◌∙◌}
 use Rattle.cm_model.specs.declared.place.Place.{Place}
-use Rattle.cm_tokens.specs.declared.token.Token.{Token}
 use Rattle.cm_tokens.specs.declared.token.Token.TheVariants as token
 use Rattle.cm_syntax.specs.declared.mark.Mark.TheVariants as mark
 use Rattle.cm_syntax.specs.declared.tree.Tree.{Tree}
 use Rattle.cm_syntax.specs.declared.tree.Decl.{Decl}
 use Rattle.cm_syntax.specs.declared.tree.Decl.TheVariants as decl
 use Rattle.cm_syntax.specs.declared.tree.Num.{Num}
-use Rattle.cm_syntax.specs.declared.tree.Num.TheVariants.{Digits, Negative}
 use Rattle.cm_syntax.specs.declared.tree.Part.{Part}
 use Rattle.cm_syntax.specs.declared.tree.«Type».{«Type» as TypeTree}
-use Rattle.cm_syntax.specs.declared.tree.«Type».TheVariants as type
 use Rattle.cm_syntax.specs.declared.tree.Block.{Block}
-use Rattle.cm_syntax.specs.declared.tree.Stmt.{Stmt}
-use Rattle.cm_syntax.specs.declared.tree.Stmt.TheVariants as stmt
 use Rattle.cm_syntax.specs.declared.tree.Expr.{Expr}
-use Rattle.cm_syntax.specs.declared.tree.Cmp.{Cmp}
-use Rattle.cm_syntax.specs.declared.tree.Relation.{Relation}
-use Rattle.cm_syntax.specs.declared.tree.Relation.TheVariants as relation
-use Rattle.cm_syntax.specs.declared.tree.Sum.{Sum}
-use Rattle.cm_syntax.specs.declared.tree.Unary.{Unary}
-use Rattle.cm_syntax.specs.declared.tree.Unary.TheVariants.{Bare, Not}
-use Rattle.cm_syntax.specs.declared.tree.Post.{Post}
-use Rattle.cm_syntax.specs.declared.tree.Set.{Set}
 use Rattle.cm_syntax.specs.declared.tree.Prim.{Prim}
-use Rattle.cm_syntax.specs.declared.tree.Prim.TheVariants as prim
-use Rattle.cm_syntax.specs.declared.tails.AfterName.{AfterName}
-use Rattle.cm_syntax.specs.declared.tails.AfterName.TheVariants as after
-use Rattle.cm_syntax.specs.declared.tails.Offset.{Offset}
-use Rattle.cm_syntax.specs.declared.tails.Offset.TheVariants as offset
-use Rattle.cm_syntax.specs.declared.tails.RightSide.{RightSide}
-use Rattle.cm_syntax.specs.declared.tails.RightSide.TheVariants as right
-use Rattle.cm_syntax.specs.declared.tails.Joined.{Joined}
-use Rattle.cm_syntax.specs.declared.tails.Joined.TheVariants as joined
 use Rattle.cm_syntax.specs.declared.fault.SyntaxFault.{SyntaxFault}
-use Rattle.cm_syntax.specs.Spelling.{set_of, post_of, relation_token}
 use Rattle.cm_syntax.specs.Text.{place_of}
-use Rattle.cm_syntax.specs.Machine as m
-use Rattle.cm_syntax.specs.Machine.{Exactly, AName, ANumber, ANum, AType, APart, MoreParts, Params, Internals, MoreNames, Key, Where, ADecl, Decls, ABlock, Stmts, AStmt, Index, Else, AnExpr, MoreCmps, Ands, Ors, ACmp, Right, ASum, AnOffset, AUnary, APost, Fields, With, MoreSets, ASet, APrim, BehindName, Args, MoreArgs, Text, Stack, Values, Shift, Takes, mapped, shift, reading, Ahead, head, Gives, Stops, Passes, Halts, part_of, after_name, sum_of, cmp_of, expr_of, assign_of, if_of, block_of, state_of, tree_of, starts_number, starts_name, starts_num, no_name, no_relation, no_close_curly, no_end, no_close_round, no_not}
+use Rattle.cm_syntax.specs.Machine.{Exactly, AName, ANum, AType, APart, MoreParts, Params, Internals, MoreNames, Key, Where, ADecl, Decls, ABlock, Text, Stack, Values, reading, Ahead, head, Gives, Stops, Passes, Halts, state_of, tree_of}
 use Rattle.cm_syntax.proofs.Steps.{same_read, passes_to, halts_at, stops_by, memory, reads_ok, reads_err}
 
 pub gives_sort : (a b0 b1 b2 : Ahead) (p : Place) (x0 : List ℕ) → head a.left ≡ Some token.Sort → Passes a p b0 → Gives AName b0 x0 b1 → Gives (Exactly mark.Semicolon) b1 tt b2 → Gives ADecl a (decl.Sort p x0) b2

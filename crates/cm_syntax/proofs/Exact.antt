@@ -8,7 +8,7 @@ use Rattle.cm_syntax.specs.declared.tree.Tree.{Tree}
 use Rattle.cm_syntax.specs.declared.fault.SyntaxFault.{SyntaxFault}
 use Rattle.cm_syntax.specs.declared.fault.SyntaxFault.TheVariants.{Syntax, Deep, Memory}
 use Rattle.cm_syntax.specs.Spelling.{tokens_of}
-use Rattle.cm_syntax.specs.Text.{tokens, place_of, Reads, Begins, Stuck, is_shallow, too_deep, open_after, IsSyntaxAt, IsDeepAt, IsRight, GivesAnswer}
+use Rattle.cm_syntax.specs.Text.{tokens, place_of, Begins, Stuck, is_shallow, too_deep, open_after, IsSyntaxAt, IsDeepAt, IsRight, GivesAnswer}
 use Rattle.cm_syntax.proofs.Laws.{unique, tokens_append}
 
 begins_less : (p : List Token) (t : Token) (q : List Token) → Begins (p ++ t ∷ q) → Begins (p ++ t ∷ [])

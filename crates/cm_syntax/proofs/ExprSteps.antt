@@ -1,20 +1,12 @@
 -- How the reader's steps add up. What stands for expressions.
-use Rattle.std.proofs.Common.{◌≡◌, ℕ, true, false, List, [], ◌∷◌, Option, Some, None, refl, ap, ◌∙◌}
+use Rattle.std.proofs.Common.{◌≡◌, ℕ, true, List, [], ◌∷◌, Option, Some, refl, ap, ◌∙◌}
 use Rattle.cm_model.specs.declared.place.Place.{Place}
 use Rattle.cm_tokens.specs.declared.token.Token.{Token}
 use Rattle.cm_tokens.specs.declared.token.Token.TheVariants as token
 use Rattle.cm_syntax.specs.declared.mark.Mark.TheVariants as mark
 use Rattle.cm_syntax.specs.declared.tree.Tree.{Tree}
-use Rattle.cm_syntax.specs.declared.tree.Decl.{Decl}
-use Rattle.cm_syntax.specs.declared.tree.Decl.TheVariants as decl
 use Rattle.cm_syntax.specs.declared.tree.Num.{Num}
-use Rattle.cm_syntax.specs.declared.tree.Num.TheVariants.{Digits, Negative}
-use Rattle.cm_syntax.specs.declared.tree.Part.{Part}
 use Rattle.cm_syntax.specs.declared.tree.«Type».{«Type» as TypeTree}
-use Rattle.cm_syntax.specs.declared.tree.«Type».TheVariants as type
-use Rattle.cm_syntax.specs.declared.tree.Block.{Block}
-use Rattle.cm_syntax.specs.declared.tree.Stmt.{Stmt}
-use Rattle.cm_syntax.specs.declared.tree.Stmt.TheVariants as stmt
 use Rattle.cm_syntax.specs.declared.tree.Expr.{Expr}
 use Rattle.cm_syntax.specs.declared.tree.Cmp.{Cmp}
 use Rattle.cm_syntax.specs.declared.tree.Relation.{Relation}

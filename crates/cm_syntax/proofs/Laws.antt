@@ -1,15 +1,14 @@
 -- What the machine answers is right.
-use Rattle.std.proofs.Common.{◌≡◌, ℕ, ◌+◌, ◌-◌, Bool, true, false, List, [], ◌∷◌, ◌++◌, map, drop, length, Some, None, Ok, Err, refl, sym, ap, ◌∙◌, subst, append_assoc, length-append, if◌then◌else◌, arith}
+use Rattle.std.proofs.Common.{◌≡◌, ℕ, ◌-◌, Bool, true, false, List, [], ◌∷◌, ◌++◌, drop, length, Some, None, Ok, Err, refl, sym, ap, ◌∙◌, subst, append_assoc, length-append, if◌then◌else◌, arith}
 use Rattle.std.proofs.lemmas.List.{append-nil}
 use Rattle.std.proofs.Math.Seq.{drop-append_seam, drop-length}
 use Rattle.cm_model.specs.declared.place.Place.{Place}
 use Rattle.cm_tokens.specs.declared.token.Token.{Token}
 use Rattle.cm_tokens.specs.declared.token.Placed.{Placed}
 use Rattle.cm_syntax.specs.declared.tree.Tree.{Tree}
-use Rattle.cm_syntax.specs.Form.{Places}
-use Rattle.cm_syntax.specs.Spelling.{tree_form, tokens_of}
+use Rattle.cm_syntax.specs.Spelling.{tokens_of}
 use Rattle.cm_syntax.specs.Text.{tokens, place_of, place_in, placed_in, Reads, Begins, Stuck, is_shallow, too_deep, open_after, IsSyntaxAt, IsDeepAt}
-use Rattle.cm_syntax.specs.Machine.{Text, Stack, Values, Shift, Takes, Ends, Fails, shift, running, reading, ended, moved, Answer, Stop, Syntax, Deep, answer_of}
+use Rattle.cm_syntax.specs.Machine.{Text, Stack, Values, Shift, Takes, Ends, Fails, shift, running, reading, ended, moved, Answer, Syntax, Deep, answer_of}
 use Rattle.cm_syntax.proofs.Spells.{spelling, some_values, Spells, shift_spells}
 use Rattle.cm_syntax.proofs.Complete.{text_taken}
 use Rattle.cm_syntax.proofs.CompleteExpr.{set_places}

@@ -1,5 +1,5 @@
 -- Each step of the machine takes the token that its values begin with.
-use Rattle.std.proofs.Common.{◌≡◌, ℕ, Bool, true, false, List, [], ◌∷◌, map, Option, Some, None, refl, ap, sym, ◌∙◌, if◌then◌else◌}
+use Rattle.std.proofs.Common.{◌≡◌, ℕ, Bool, true, false, List, [], ◌∷◌, map, Option, Some, None, refl, ap, ◌∙◌, if◌then◌else◌}
 use Rattle.cm_model.specs.declared.place.Place.{Place}
 use Rattle.cm_tokens.specs.declared.token.Token.{Token}
 use Rattle.cm_tokens.specs.declared.token.Token.TheVariants as token
@@ -11,13 +11,11 @@ use Rattle.cm_syntax.specs.declared.tree.Num.TheVariants.{Digits, Negative}
 use Rattle.cm_syntax.specs.declared.tree.«Type».{«Type» as TypeTree}
 use Rattle.cm_syntax.specs.declared.tree.«Type».TheVariants as type
 use Rattle.cm_syntax.specs.declared.tree.Block.{Block}
-use Rattle.cm_syntax.specs.declared.tree.Stmt.{Stmt}
 use Rattle.cm_syntax.specs.declared.tree.Stmt.TheVariants as stmt
 use Rattle.cm_syntax.specs.declared.tree.Expr.{Expr}
 use Rattle.cm_syntax.specs.declared.tree.Expr.TheVariants as expr
 use Rattle.cm_syntax.specs.declared.tree.Cmp.{Cmp}
 use Rattle.cm_syntax.specs.declared.tree.Cmp.TheVariants as cmp
-use Rattle.cm_syntax.specs.declared.tree.Relation.TheVariants as relation
 use Rattle.cm_syntax.specs.declared.tree.Sum.{Sum}
 use Rattle.cm_syntax.specs.declared.tree.Sum.TheVariants as sum
 use Rattle.cm_syntax.specs.declared.tree.Unary.{Unary}
@@ -31,7 +29,7 @@ use Rattle.cm_syntax.specs.declared.tails.RightSide.{RightSide}
 use Rattle.cm_syntax.specs.declared.tails.RightSide.TheVariants as right
 use Rattle.cm_syntax.specs.declared.tails.Joined.{Joined}
 use Rattle.cm_syntax.specs.declared.tails.Joined.TheVariants as joined
-use Rattle.cm_syntax.specs.Form.{Form, each_after}
+use Rattle.cm_syntax.specs.Form.{each_after}
 use Rattle.cm_syntax.specs.Spelling.{names_after, listed, each, num_form, type_form, part_form, set_of, post_of, relation_token, sets_form, cmp_form, expr_form, prim_form, sum_form, unary_form, post_form, set_form, stmt_form, block_form, internal_form, decl_form, tree_form}
 use Rattle.cm_syntax.specs.Machine as m
 use Rattle.cm_syntax.specs.Machine.{Symbol, Exactly, AName, ANumber, ANum, AType, APart, MoreParts, Params, Internals, MoreNames, Key, Where, ADecl, Decls, ABlock, Stmts, AStmt, Index, Else, AnExpr, MoreCmps, Ands, Ors, ACmp, Right, ASum, AnOffset, AUnary, APost, Fields, With, MoreSets, ASet, APrim, BehindName, Args, MoreArgs, Text, ValueOf, Stack, Values, Shift, Takes, Ends, Fails, mapped, is_mark, symbol_at, shift}

@@ -1,5 +1,5 @@
 -- A machine that takes one token at a time; what is yet to come is a list of symbols. Only the clauses of the functions that read a part of a text speak of it.
-use Rattle.std.specs.Prelude.{◌≡◌, ℕ, ◌+◌, Bool, true, false, List, [], ◌∷◌, ◌++◌, length, Option, Some, None, Result, Ok, Err, if◌then◌else◌}
+use Rattle.std.specs.Prelude.{◌≡◌, ℕ, Bool, true, false, List, [], ◌∷◌, ◌++◌, Option, Some, None, Result, Ok, Err, if◌then◌else◌}
 use Rattle.cm_model.specs.declared.place.Place.{Place}
 use Rattle.cm_tokens.specs.declared.token.Token.{Token}
 use Rattle.cm_tokens.specs.declared.token.Token.TheVariants as token
@@ -21,7 +21,6 @@ use Rattle.cm_syntax.specs.declared.tree.Expr.{Expr}
 use Rattle.cm_syntax.specs.declared.tree.Expr.TheVariants.{Single, All, Any}
 use Rattle.cm_syntax.specs.declared.tree.Cmp.{Cmp}
 use Rattle.cm_syntax.specs.declared.tree.Cmp.TheVariants.{Side, Compared}
-use Rattle.cm_syntax.specs.declared.tree.Relation.{Relation}
 use Rattle.cm_syntax.specs.declared.tree.Relation.TheVariants as relation
 use Rattle.cm_syntax.specs.declared.tree.Sum.{Sum}
 use Rattle.cm_syntax.specs.declared.tree.Sum.TheVariants.{Term, Plus, Minus}

@@ -3,7 +3,7 @@ use Rattle.std.specs.Prelude.{ℕ, List, [], ◌∷◌, map}
 use Rattle.cm_model.specs.declared.place.Place.{Place}
 use Rattle.cm_tokens.specs.declared.token.Token.{Token}
 use Rattle.cm_tokens.specs.declared.token.Token.TheVariants as token
-use Rattle.cm_syntax.specs.Form.{Places, Form, nothing, written, word, part, node, each_after}
+use Rattle.cm_syntax.specs.Form.{Form, nothing, written, word, part, node, each_after}
 use Rattle.cm_syntax.specs.declared.tree.Tree.{Tree}
 use Rattle.cm_syntax.specs.declared.tree.Decl.{Decl}
 use Rattle.cm_syntax.specs.declared.tree.Decl.TheVariants as decl

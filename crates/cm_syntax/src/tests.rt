@@ -26,66 +26,106 @@ fn nested(alloc: Global, brackets: usize, end: &[u8]) -> Result<Vec<u8>, Fail> {
     Ok(text)
 }
 
+// Whether each text gets the answer that stands beside it.
+fn are_found(alloc: Global, rows: &[(&[u8], (&'static str, u32, u32))]) -> bool {
+    for (text, want) in rows {
+        if found(alloc, text) != *want {
+            return false;
+        }
+    }
+    true
+}
+
 #[test]
-fn the_first_token_at_fault_is_named(rt: HostRuntime) -> Result<(), Fail> {
-    let a = rt.alloc();
-    assert_eq!(rt; found(a, b""), ("syntax", 1, 1));
-    assert_eq!(rt; found(a, b"sort S;"), ("tree", 1, 1));
-    assert_eq!(rt; found(a, b" // a model\n  sort S;"), ("tree", 2, 3));
-    assert_eq!(rt; found(a, &[255]), ("syntax", 1, 1));
-    assert_eq!(rt; found(a, b"!"), ("syntax", 1, 1));
-    assert_eq!(rt; found(a, b"int N 0..12345678;"), ("syntax", 1, 10));
-    assert_eq!(rt; found(a, b"int N 00..1;"), ("syntax", 1, 7));
-    assert_eq!(rt; found(a, b"enum E { }"), ("syntax", 1, 10));
-    assert_eq!(rt; found(a, b"call f(;) -> bool { }"), ("syntax", 1, 9));
-    assert_eq!(rt;
-        found(a, b"fn f(; internal d: T) -> T { }"),
-        ("syntax", 1, 6)
+fn texts_and_the_tokens_at_fault(rt: HostRuntime) {
+    assert!(rt;
+        are_found(
+            rt.alloc(),
+            &[
+                (b"", ("syntax", 1, 1)),
+                (b"sort S;", ("tree", 1, 1)),
+                (b" // a model\n  sort S;", ("tree", 2, 3)),
+                (&[255], ("syntax", 1, 1)),
+                (b"!", ("syntax", 1, 1)),
+                (b"int N 0..12345678;", ("syntax", 1, 10)),
+                (b"int N 00..1;", ("syntax", 1, 7)),
+                (b"enum E { }", ("syntax", 1, 10)),
+                (b"call f(;) -> bool { }", ("syntax", 1, 9)),
+                (b"fn f(; internal d: T) -> T { }", ("syntax", 1, 6)),
+            ]
+        )
     );
-    assert_eq!(rt;
-        found(a, b"call f() -> bool { return a and b or c; }"),
-        ("syntax", 1, 35)
+}
+
+#[test]
+fn bodies_and_the_tokens_at_fault(rt: HostRuntime) {
+    assert!(rt;
+        are_found(
+            rt.alloc(),
+            &[
+                (
+                    b"call f() -> bool { return a and b or c; }",
+                    ("syntax", 1, 35)
+                ),
+                (
+                    b"call f() -> bool { return a == b == c; }",
+                    ("syntax", 1, 34)
+                ),
+                (b"call f() -> bool { return not not a; }", ("syntax", 1, 31)),
+                (
+                    b"call f() -> bool { if a { } else if b { } }",
+                    ("syntax", 1, 34)
+                ),
+                (
+                    b"call f() -> bool { return a with { }; }",
+                    ("syntax", 1, 36)
+                ),
+            ]
+        )
     );
-    assert_eq!(rt;
-        found(a, b"call f() -> bool { return a == b == c; }"),
-        ("syntax", 1, 34)
-    );
-    assert_eq!(rt;
-        found(a, b"call f() -> bool { return not not a; }"),
-        ("syntax", 1, 31)
-    );
-    assert_eq!(rt;
-        found(a, b"call f() -> bool { if a { } else if b { } }"),
-        ("syntax", 1, 34)
-    );
-    assert_eq!(rt;
-        found(a, b"call f() -> bool { return a with { }; }"),
-        ("syntax", 1, 36)
-    );
-    let mut spaces = Vec::new(a);
+}
+
+#[test]
+fn a_million_spaces_are_no_text(rt: HostRuntime) -> Result<(), Fail> {
+    let mut spaces = Vec::new(rt.alloc());
     for _ in 0..1_000_000 {
         spaces.push(b' ')?;
     }
-    assert_eq!(rt; found(a, &spaces), ("syntax", 1, 1_000_001));
+    assert_eq!(rt; found(rt.alloc(), &spaces), ("syntax", 1, 1_000_001));
+    Ok(())
+}
+
+// What is answered to so many brackets in a body, with this end.
+fn found_nested(
+    alloc: Global,
+    brackets: usize,
+    end: &[u8],
+) -> Result<(&'static str, u32, u32), Fail> {
+    let text = nested(alloc, brackets, end)?;
+    Ok(found(alloc, &text))
+}
+
+/// The brace is open too, so 63 more may be.
+#[test]
+fn a_bracket_too_many_is_deep_where_one_may_stand(rt: HostRuntime) -> Result<(), Fail> {
+    let a = rt.alloc();
+    assert_eq!(rt; found_nested(a, 63, b"")?, ("syntax", 1, 90));
+    assert_eq!(rt; found_nested(a, 64, b"")?, ("deep", 1, 90));
+    assert_eq!(rt; found_nested(a, 65, b"")?, ("deep", 1, 90));
+    assert_eq!(rt; found_nested(a, 63, b"a[")?, ("deep", 1, 91));
+    assert_eq!(rt; found_nested(a, 63, b"a{")?, ("syntax", 1, 91));
+    assert_eq!(rt; found_nested(a, 63, b"a with {")?, ("deep", 1, 97));
     Ok(())
 }
 
 #[test]
-fn a_bracket_too_many_is_deep_where_one_may_stand(rt: HostRuntime) -> Result<(), Fail> {
-    let a = rt.alloc();
-    // The brace is open too, so 63 more may be.
-    assert_eq!(rt; found(a, &nested(a, 63, b"")?), ("syntax", 1, 90));
-    assert_eq!(rt; found(a, &nested(a, 64, b"")?), ("deep", 1, 90));
-    assert_eq!(rt; found(a, &nested(a, 65, b"")?), ("deep", 1, 90));
-    assert_eq!(rt; found(a, &nested(a, 63, b"a[")?), ("deep", 1, 91));
-    assert_eq!(rt; found(a, &nested(a, 63, b"a{")?), ("syntax", 1, 91));
-    assert_eq!(rt; found(a, &nested(a, 63, b"a with {")?), ("deep", 1, 97));
-    let mut whole = nested(a, 63, b"a")?;
+fn as_many_brackets_as_may_be_open_are_read(rt: HostRuntime) -> Result<(), Fail> {
+    let mut whole = nested(rt.alloc(), 63, b"a")?;
     for _ in 0..63 {
         whole.push(b')')?;
     }
     whole.extend_from_slice(b"; }")?;
-    assert_eq!(rt; found(a, &whole), ("tree", 1, 1));
+    assert_eq!(rt; found(rt.alloc(), &whole), ("tree", 1, 1));
     Ok(())
 }
 
@@ -136,29 +176,35 @@ fn g(a: S) -> S { return a; }
 call h(; internal d: S) -> bool { return true; }
 ";
 
+// Whether the declarations behind the first are of these kinds and stand on these lines.
+fn are_declared(decls: &[Decl], wanted: &[(&'static str, u32)]) -> bool {
+    for (decl, want) in decls.iter().zip(wanted.iter()) {
+        if decl_kind(decl) != *want {
+            return false;
+        }
+    }
+    decls.len() == wanted.len()
+}
+
+fn is_each_declaration(tree: &Tree) -> bool {
+    let behind = [
+        ("int", 2),
+        ("enum", 3),
+        ("record", 4),
+        ("cell", 5),
+        ("cell where", 6),
+        ("map", 7),
+        ("map where", 8),
+        ("function", 9),
+        ("call", 10),
+    ];
+    decl_kind(&tree.first) == ("sort", 1) && are_declared(tree.more.as_slice(), &behind)
+}
+
 #[test]
 fn each_declaration_is_read_as_it_is_written(rt: HostRuntime) -> Result<(), Fail> {
     let tree = read_tree(rt.alloc(), DECLARATIONS)?;
-    let mut kinds = Vec::new(rt.alloc());
-    for decl in tree.more.as_slice() {
-        kinds.push(decl_kind(decl))?;
-    }
-    assert_eq!(rt; decl_kind(&tree.first), ("sort", 1));
-    assert_eq!(rt;
-        kinds.as_slice(),
-        [
-            ("int", 2),
-            ("enum", 3),
-            ("record", 4),
-            ("cell", 5),
-            ("cell where", 6),
-            ("map", 7),
-            ("map where", 8),
-            ("function", 9),
-            ("call", 10)
-        ]
-        .as_slice()
-    );
+    assert!(rt; is_each_declaration(&tree));
     Ok(())
 }
 
@@ -195,28 +241,39 @@ const STATEMENTS: &[u8] = b"call f(a: S) -> bool {
 }
 ";
 
+// Whether the statements are of these kinds, a line each from the second on, two columns in.
+fn are_stated(stmts: &[Stmt], wanted: &[&'static str]) -> bool {
+    let mut line = 2u32;
+    for (stmt, want) in stmts.iter().zip(wanted.iter()) {
+        let (kind, at) = stmt_kind(stmt);
+        if (kind, at.line, at.col) != (*want, line, 3) {
+            return false;
+        }
+        line = line.saturating_add(1);
+    }
+    stmts.len() == wanted.len()
+}
+
+fn is_each_statement(tree: &Tree) -> bool {
+    are_stated(
+        body(tree),
+        &[
+            "let",
+            "assign",
+            "assign at",
+            "if",
+            "if else",
+            "case",
+            "assume",
+            "return",
+        ],
+    )
+}
+
 #[test]
 fn each_statement_is_read_as_it_is_written(rt: HostRuntime) -> Result<(), Fail> {
     let tree = read_tree(rt.alloc(), STATEMENTS)?;
-    let mut kinds = Vec::new(rt.alloc());
-    for stmt in body(&tree) {
-        let (kind, at) = stmt_kind(stmt);
-        kinds.push((kind, at.line, at.col))?;
-    }
-    assert_eq!(rt;
-        kinds.as_slice(),
-        [
-            ("let", 2, 3),
-            ("assign", 3, 3),
-            ("assign at", 4, 3),
-            ("if", 5, 3),
-            ("if else", 6, 3),
-            ("case", 7, 3),
-            ("assume", 8, 3),
-            ("return", 9, 3)
-        ]
-        .as_slice()
-    );
+    assert!(rt; is_each_statement(&tree));
     Ok(())
 }
 
@@ -309,17 +366,30 @@ const EXPRESSIONS: &[u8] = b"call f() -> bool {
 }
 ";
 
-#[test]
-fn each_expression_is_read_as_it_is_written(rt: HostRuntime) -> Result<(), Fail> {
-    let tree = read_tree(rt.alloc(), EXPRESSIONS)?;
-    let mut kinds = Vec::new(rt.alloc());
-    for stmt in body(&tree) {
-        if let Stmt::Return { value, .. } = stmt {
-            let (kind, at) = expr_kind(value.get());
-            kinds.push((kind, at.line, at.col))?;
+// Whether each statement returns an expression of this kind, a line each from the second on, behind `return`.
+fn are_returned(stmts: &[Stmt], wanted: &[&'static str]) -> bool {
+    let mut line = 2u32;
+    for (stmt, want) in stmts.iter().zip(wanted.iter()) {
+        if !is_returned(stmt, *want, line) {
+            return false;
         }
+        line = line.saturating_add(1);
     }
-    let want = [
+    stmts.len() == wanted.len()
+}
+
+fn is_returned(stmt: &Stmt, want: &'static str, line: u32) -> bool {
+    match stmt {
+        Stmt::Return { value, .. } => {
+            let (kind, at) = expr_kind(value.get());
+            (kind, at.line, at.col) == (want, line, 10)
+        }
+        _ => false,
+    }
+}
+
+fn is_each_expression(tree: &Tree) -> bool {
+    let wanted = [
         "number",
         "negative",
         "true",
@@ -347,12 +417,13 @@ fn each_expression_is_read_as_it_is_written(rt: HostRuntime) -> Result<(), Fail>
         "three ands",
         "or",
     ];
-    assert_eq!(rt; kinds.len(), want.len());
-    let mut line = 2u32;
-    for (kind, name) in kinds.iter().zip(want.iter()) {
-        assert_eq!(rt; *kind, (*name, line, 10));
-        line = line.saturating_add(1);
-    }
+    are_returned(body(tree), &wanted)
+}
+
+#[test]
+fn each_expression_is_read_as_it_is_written(rt: HostRuntime) -> Result<(), Fail> {
+    let tree = read_tree(rt.alloc(), EXPRESSIONS)?;
+    assert!(rt; is_each_expression(&tree));
     Ok(())
 }
 
@@ -391,49 +462,60 @@ call seek(p: Pid, fd: Fd; internal off: Off) -> Err {
 }
 ";
 
-#[test]
-fn a_model_of_file_calls_is_read(rt: HostRuntime) -> Result<(), Fail> {
-    let tree = read_tree(rt.alloc(), FILES)?;
-    assert_eq!(rt; (tree.at.line, tree.at.col), (2, 1));
-    assert_eq!(rt; tree.more.len(), 11);
-    Ok(())
+fn is_of_twelve(tree: &Tree) -> bool {
+    (tree.at.line, tree.at.col) == (2, 1) && tree.more.len() == 11
 }
 
 #[test]
-fn names_and_numbers_are_those_of_the_text(rt: HostRuntime) -> Result<(), Fail> {
-    let tree = read_tree(rt.alloc(), b"int N -5..70; enum E { a, bc, d }")?;
-    match &tree.first {
+fn a_model_of_file_calls_is_read(rt: HostRuntime) -> Result<(), Fail> {
+    let tree = read_tree(rt.alloc(), FILES)?;
+    assert!(rt; is_of_twelve(&tree));
+    Ok(())
+}
+
+// `int N -5..70;`
+fn is_range(decl: &Decl) -> bool {
+    match decl {
         Decl::Int {
             name,
             low: Num::Negative { size: 5, at: low },
             high: Num::Digits { size: 70, at: high },
             ..
-        } => {
-            assert_eq!(rt; name.as_str(), "N");
-            assert_eq!(rt; (low.col, high.col), (7, 11));
-        }
-        _ => assert!(rt; false),
+        } => name.as_str() == "N" && (low.col, high.col) == (7, 11),
+        _ => false,
     }
+}
+
+// `enum E { a, bc, d }`
+fn is_enum(decl: &Decl) -> bool {
+    match decl {
+        Decl::Enum {
+            name,
+            first,
+            more,
+            ..
+        } => name.as_str() == "E" && first.as_str() == "a" && are_names(more.as_slice(), "bc", "d"),
+        _ => false,
+    }
+}
+
+fn are_names(names: &[Name], second: &str, third: &str) -> bool {
+    match names {
+        [n, m] => n.as_str() == second && m.as_str() == third,
+        _ => false,
+    }
+}
+
+fn is_range_and_enum(tree: &Tree) -> bool {
     match tree.more.as_slice() {
-        [
-            Decl::Enum {
-                name,
-                first,
-                more,
-                ..
-            },
-        ] => {
-            assert_eq!(rt; name.as_str(), "E");
-            assert_eq!(rt; first.as_str(), "a");
-            let names: &[Name] = more.as_slice();
-            match names {
-                [second, third] => {
-                    assert_eq!(rt; (second.as_str(), third.as_str()), ("bc", "d"));
-                }
-                _ => assert!(rt; false),
-            }
-        }
-        _ => assert!(rt; false),
+        [decl] => is_range(&tree.first) && is_enum(decl),
+        _ => false,
     }
+}
+
+#[test]
+fn names_and_numbers_are_those_of_the_text(rt: HostRuntime) -> Result<(), Fail> {
+    let tree = read_tree(rt.alloc(), b"int N -5..70; enum E { a, bc, d }")?;
+    assert!(rt; is_range_and_enum(&tree));
     Ok(())
 }
