@@ -13,7 +13,7 @@ ghost use Rattle.cm_eval.specs.Going.{Gives, AreFitting, doing_of, key_doing, fu
 use crate::cells::read;
 use crate::log::{CellName, Log};
 use crate::operand::{
-    Operand, as_flag, compare_by, convert, field, flag, inspect, number, sum, with_field,
+    Operand, as_flag, compare_taken, convert, field, flag, inspect, number, sum, with_field,
 };
 use crate::rules::Rules;
 use crate::state::State;
@@ -493,10 +493,7 @@ fn evaluate_compare(
 {
     match evaluate(rules, left, locals, state, log)? {
         Some(x) => match evaluate(rules, right, locals, state, log)? {
-            Some(y) => {
-                let r = compare_by(rules, op, &x, &y, state, log)?;
-                Ok(as_flag(r))
-            }
+            Some(y) => compare_taken(rules, op, x, y, state, log),
             None => Ok(None),
         },
         None => Ok(None),
