@@ -491,13 +491,13 @@ fn evaluate_compare(
     ensures gives { IfOk result (λ r. Gives rules.now (compare_of op (doing_of rules.now left.now) (doing_of rules.now right.now) locals.now) r state.old log.old state.new log.new) }
     ensures fits { IfOk result (λ r. IfSome r (IsFitting (max (reach_of left.now) (reach_of right.now)))) }
 {
-    match evaluate(rules, left, locals, state, log)? {
-        Some(x) => match evaluate(rules, right, locals, state, log)? {
-            Some(y) => compare_taken(rules, op, x, y, state, log),
-            None => Ok(None),
-        },
-        None => Ok(None),
-    }
+    let Some(x) = evaluate(rules, left, locals, state, log)? else {
+        return Ok(None);
+    };
+    let Some(y) = evaluate(rules, right, locals, state, log)? else {
+        return Ok(None);
+    };
+    compare_taken(rules, op, x, y, state, log)
 }
 
 // Operands in order until one is false.

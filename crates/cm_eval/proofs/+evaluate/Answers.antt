@@ -154,14 +154,14 @@ expr::evaluate_cell-returns-in-Some t c = record { gives = out (λ v k. k (named
 pub expr::evaluate_cell-returns-in-None : goal.expr::evaluate_cell-returns-in-None
 expr::evaluate_cell-returns-in-None t c = record { gives = halt (λ v k. k (named c.args.s (Some v))) c.in_ok-key.ensures.gives c.in-None.is }
 
-pub expr::evaluate_compare-returns-in-Some-2-clause-gives : goal.expr::evaluate_compare-returns-in-Some-2-clause-gives
-expr::evaluate_compare-returns-in-Some-2-clause-gives t c = on_ok c.compare_taken.result _ _ (λ o g. thus (λ x k. doing_of c.args.rules.now c.args.right.now c.args.locals.now (λ y. compares_by c.args.op x y (λ s. k (flag s)))) c.in-Some.x c.in_ok-x.ensures.gives c.in-Some.is (thus (λ y k. compares_by c.args.op c.in-Some.x y (λ s. k (flag s))) c.in-Some-2.y c.in_ok-y-in-Some.ensures.gives c.in-Some-2.is g)) c.compare_taken.ensures.gives
+pub expr::evaluate_compare-returns-clause-gives : goal.expr::evaluate_compare-returns-clause-gives
+expr::evaluate_compare-returns-clause-gives t c = on_ok c.compare_taken.result _ _ (λ o g. thus (λ x k. doing_of c.args.rules.now c.args.right.now c.args.locals.now (λ y. compares_by c.args.op x y (λ s. k (flag s)))) c.in-Some.x c.in_ok-x.ensures.gives c.in-Some.is (thus (λ y k. compares_by c.args.op c.in-Some.x y (λ s. k (flag s))) c.in-Some-2.y c.in_ok-y.ensures.gives c.in-Some-2.is g)) c.compare_taken.ensures.gives
 
-pub expr::evaluate_compare-returns-in-None-2-clause-gives : goal.expr::evaluate_compare-returns-in-None-2-clause-gives
-expr::evaluate_compare-returns-in-None-2-clause-gives t c = thus (λ x k. doing_of c.args.rules.now c.args.right.now c.args.locals.now (λ y. compares_by c.args.op x y (λ s. k (flag s)))) c.in-Some.x c.in_ok-x.ensures.gives c.in-Some.is (halt (λ y k. compares_by c.args.op c.in-Some.x y (λ s. k (flag s))) c.in_ok-y-in-Some.ensures.gives c.in-None-2.is)
+pub expr::evaluate_compare-returns-in_default-2-clause-gives : goal.expr::evaluate_compare-returns-in_default-2-clause-gives
+expr::evaluate_compare-returns-in_default-2-clause-gives t c = thus (λ x k. doing_of c.args.rules.now c.args.right.now c.args.locals.now (λ y. compares_by c.args.op x y (λ s. k (flag s)))) c.in-Some.x c.in_ok-x.ensures.gives c.in-Some.is (halt (λ y k. compares_by c.args.op c.in-Some.x y (λ s. k (flag s))) c.in_ok-y.ensures.gives c.in_default-2.is)
 
-pub expr::evaluate_compare-returns-in-None-clause-gives : goal.expr::evaluate_compare-returns-in-None-clause-gives
-expr::evaluate_compare-returns-in-None-clause-gives t c = halt (λ x k. doing_of c.args.rules.now c.args.right.now c.args.locals.now (λ y. compares_by c.args.op x y (λ s. k (flag s)))) c.in_ok-x.ensures.gives c.in-None.is
+pub expr::evaluate_compare-returns-in_default-clause-gives : goal.expr::evaluate_compare-returns-in_default-clause-gives
+expr::evaluate_compare-returns-in_default-clause-gives t c = halt (λ x k. doing_of c.args.rules.now c.args.right.now c.args.locals.now (λ y. compares_by c.args.op x y (λ s. k (flag s)))) c.in_ok-x.ensures.gives c.in_default.is
 
 pub expr::evaluate_fields-returns-in_ok-r-in-Some-clause-gives : goal.expr::evaluate_fields-returns-in_ok-r-in-Some-clause-gives
 expr::evaluate_fields-returns-in_ok-r-in-Some-clause-gives t c = answers c.in_ok-r-in-Some.ensures.field (thus (λ v k. given (value_at (Some v) c.args.path.now) (λ w. k (operand.Plain w))) c.in-Some.v c.in_ok-v.ensures.gives c.in-Some.is (mapped operand.Plain _ (opt (value_at (Some c.in-Some.v) c.args.path.now))))
