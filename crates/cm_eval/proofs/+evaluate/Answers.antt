@@ -3,7 +3,6 @@ use denote.Param.Weighed.{most, at_most}
 use Rattle.cm_model.specs.declared.body.Expr.TheViews.{the_lemmas}
 use Rattle.cm_model.specs.declared.body.Expr.{size-Expr}
 use Rattle.cm_model.specs.declared.body.SetField.{size-SetField}
-use Rattle.cm_model.specs.declared.body.Expr.TheVariants as expr
 use Rattle.cm_value.specs.declared.value.Value.TheVariants as value
 use Rattle.cm_value.specs.Limits.{is_limited}
 use Rattle.cm_eval.specs.declared.operand.Operand.TheVariants as operand
@@ -11,7 +10,7 @@ use Rattle.cm_eval.specs.Script.{Blocks, Reads, Writes, given}
 use Rattle.cm_eval.specs.State.{look_up, put}
 use Rattle.cm_eval.specs.Comparison.{option_of}
 use Rattle.cm_eval.specs.Limits.{IsNear, are_limited, reach_of, stmt_reach, body_reach, key_reach}
-use Rattle.cm_eval.specs.Evaluation.{Doing, Called, called, meanings, body_of, let_of, write_of, if_of, case_of, assume_of, return_of, branch_of, some_branch_of, case_branch, opened, named, valued, inspected, inspects, number_of, value_of, compares_by, values_of, all_of, any_of, sets_of, value_at, with_field, opens, replaced_of, into_type, read_of, fields_of, with_of, make_of, some_of, into_of, compare_of, not_of, apply_of, fun_at, flag}
+use Rattle.cm_eval.specs.Evaluation.{Doing, Called, called, meanings, body_of, let_of, write_of, if_of, case_of, assume_of, return_of, branch_of, some_branch_of, case_branch, opened, named, valued, inspected, inspects, number_of, value_of, compares_by, values_of, all_of, any_of, sets_of, value_at, with_field, opens, replaced_of, into_type, fields_of, with_of, make_of, some_of, into_of, compare_of, not_of, apply_of, fun_at, flag}
 use Rattle.cm_eval.specs.Run.{logged, run}
 use Rattle.cm_model.specs.declared.body.Call.{Call}
 use Rattle.cm_eval.specs.Going.{Touches, Asks, block_in, stopped, goes_on, doing_of, funs_of, sets_in, turn_in}
@@ -21,7 +20,7 @@ use Rattle.cm_eval.proofs.Measures.{key_depth, depth_of, block_depth}
 use Rattle.cm_eval.proofs.Functions.{function_meaning, no_function}
 use Rattle.cm_eval.proofs.Touching.{read_gives, read_halts, write_goes, write_halts, asks_some, asks_none}
 use Rattle.cm_eval.specs.declared.flow.Flow.TheVariants as flow
-use Rattle.cm_eval.proofs.Nodes.{node_num, node_tag, node_local, node_whole, node_read, node_fields, node_with, node_make, node_none, node_some, node_into, node_compare, node_all, node_any, node_not, node_apply, turn_let, turn_set, turn_if, turn_case, turn_assume, turn_return}
+use Rattle.cm_eval.proofs.Nodes.{node_num, node_tag, node_local, node_fields, node_with, node_make, node_none, node_some, node_into, node_compare, node_all, node_any, node_not, node_apply, turn_let, turn_set, turn_if, turn_case, turn_assume, turn_return}
 use Rattle.cm_eval.proofs.Steps.{thus, halt, gives, blocks, out, stuck, opt, mapped, answers, means, on_ok, on_end, on_any, turn, unroll, no_more, ended, renamed, turn_ends, turn_halts, turn_goes, turn_means, turn_locals, turn_scoped, turn_same, wrote, block_next, block_reply, block_blocked, outer_kept, take_front, take_own}
 use Rattle.cm_eval.proofs.Near.{near_of, near_sum, wide, wide_number, reach_number, fitting_number, fitting_of, base_small, sets_small, sets_fit}
 use Rattle.cm_eval.proofs.+evaluate.Goals as goal
