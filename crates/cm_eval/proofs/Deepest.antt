@@ -1,6 +1,5 @@
 -- The reach of functions that are put behind others.
-use Rattle.std.proofs.Common.{ℕ, ◌≤◌, List, [], ◌∷◌, ◌++◌, map, arith}
-use Rattle.cm_model.specs.Weights.{greatest}
+use Rattle.std.proofs.Common.{◌≤◌, List, [], ◌∷◌, ◌++◌, arith}
 use Rattle.cm_model.specs.declared.body.Call.{Call}
 use Rattle.cm_eval.specs.Limits.{body_reach, funs_reach}
 

@@ -1,6 +1,6 @@
 -- One step of the evaluator after another.
 use Rattle.std.proofs.Common.{◌≡◌, ℕ, ◌+◌, ◌<◌, ◌≤◌, List, [], ◌∷◌, ◌++◌, length, take, drop, get_or, Option, Some, None, refl, sym, ap, ◌∙◌, subst}
-use Rattle.std.specs.Prelude.{option_map, Result, Ok, Err, IfOk}
+use Rattle.std.specs.Prelude.{option_map, Result, Ok, Err, IfOk, OnOk}
 use Rattle.std.proofs.lemmas.List.{drop_more, drop_all}
 use Rattle.cm_value.specs.declared.value.Value.{Value}
 use Rattle.cm_eval.specs.declared.log.Log.{Log}
@@ -78,6 +78,14 @@ means {r = r} {o = o} {s = s} {t = t} {l = l} {after = after} locals e g = subst
 pub on_ok : {X E : Type 0} (res : Result X E) (P Q : X → Type 0) → ((x : X) → P x → Q x) → IfOk res P → IfOk res Q
 on_ok (Ok x) P Q f h = f x h
 on_ok (Err e) P Q f h = tt
+
+pub on_end : {X E : Type 0} (res : Result X E) (P Q : Type 0) → (P → Q) → OnOk res P → OnOk res Q
+on_end (Ok x) P Q f h = f h
+on_end (Err e) P Q f h = tt
+
+pub on_any : {X E : Type 0} (res : Result X E) (P : Type 0) → P → OnOk res P
+on_any (Ok x) P h = h
+on_any (Err e) P h = tt
 
 -- one more turn of a loop: from what was left to what is left now
 module _ {X Y : Type 0} (r : Rules) (m : (X → Doing) → Doing) (o : Option X) (s t : Store) (l after : Log) (W : (Y → Doing) → End)
@@ -193,6 +201,10 @@ pub take_front : (xs ys : List Value) → take (length xs) (xs ++ ys) ≡ xs
 take_front [] [] = refl
 take_front [] (y ∷ ys) = refl
 take_front (x ∷ xs) ys = ap (λ zs. x ∷ zs) (take_front xs ys)
+
+pub take_own : (xs : List Value) → take (length xs) xs ≡ xs
+take_own [] = refl
+take_own (x ∷ xs) = ap (λ zs. x ∷ zs) (take_own xs)
 
 -- locals that begin with others, which begin with the outer ones
 pub outer_kept : (xs ys zs : List Value) → take (length xs) ys ≡ xs → take (length ys) zs ≡ ys → take (length xs) zs ≡ xs

@@ -13,7 +13,7 @@ ghost use Rattle.cm_eval.specs.Going.{Gives, AreFitting, doing_of, key_doing, fu
 use crate::cells::read;
 use crate::log::{CellName, Log};
 use crate::operand::{
-    Operand, as_flag, compare_by, convert, field, flag, inspect, number, sum, with_field,
+    Operand, as_flag, compare_taken, convert, field, flag, inspect, number, sum, with_field,
 };
 use crate::rules::Rules;
 use crate::state::State;
@@ -491,16 +491,13 @@ fn evaluate_compare(
     ensures gives { IfOk result (λ r. Gives rules.now (compare_of op (doing_of rules.now left.now) (doing_of rules.now right.now) locals.now) r state.old log.old state.new log.new) }
     ensures fits { IfOk result (λ r. IfSome r (IsFitting (max (reach_of left.now) (reach_of right.now)))) }
 {
-    match evaluate(rules, left, locals, state, log)? {
-        Some(x) => match evaluate(rules, right, locals, state, log)? {
-            Some(y) => {
-                let r = compare_by(rules, op, &x, &y, state, log)?;
-                Ok(as_flag(r))
-            }
-            None => Ok(None),
-        },
-        None => Ok(None),
-    }
+    let Some(x) = evaluate(rules, left, locals, state, log)? else {
+        return Ok(None);
+    };
+    let Some(y) = evaluate(rules, right, locals, state, log)? else {
+        return Ok(None);
+    };
+    compare_taken(rules, op, x, y, state, log)
 }
 
 // Operands in order until one is false.

@@ -101,8 +101,8 @@ pub fn inspect(
     }
 }
 
-/// Two operands by one of the six comparisons.
-pub fn compare_by(
+// Two operands by one of the six comparisons.
+fn compare_by(
     rules: &Rules,
     op: Op,
     left: &Operand,
@@ -138,6 +138,23 @@ pub fn compare_by(
             None => Ok(None),
         },
     }
+}
+
+/// The same, as an operand. It takes the two operands, so that the caller need not drop them.
+#[inline(never)]
+pub fn compare_taken(
+    rules: &Rules,
+    op: Op,
+    left: Operand,
+    right: Operand,
+    state: &State,
+    log: &mut Log,
+) -> Result<Option<Operand>, NoMemory>
+    ensures gives { IfOk result (λ r. Gives rules.now (λ k. compares_by op left right (λ s. k (evaluation.flag s))) r state.now log.old state.now log.new) }
+    ensures fits { IfOk result (λ r. IfSome r (IsFitting 0)) }
+{
+    let r = compare_by(rules, op, &left, &right, state, log)?;
+    Ok(as_flag(r))
 }
 
 // Whether two operands differ.

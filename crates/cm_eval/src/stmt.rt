@@ -112,52 +112,35 @@ fn run_statement(
     ensures outer { OnOk result (take (length locals.old) locals.new ≡ locals.old) }
 {
     match s {
-        Stmt::Let(e) => {
-            let r = run_let(rules, e, locals, state, log)?;
-            Ok(r)
-        }
+        Stmt::Let(e) => run_let(rules, e, locals, state, log),
         Stmt::Set {
             state: s,
             key,
             value,
-        } => {
-            let r = run_set(rules, *s, key, value, locals.as_slice(), state, log)?;
-            Ok(r)
-        }
+        } => run_set(rules, *s, key, value, locals.as_slice(), state, log),
         Stmt::If { cond, yes, other } => {
             match evaluate_flag(rules, cond, locals.as_slice(), state, log)? {
-                Some(true) => {
-                    let r = run_branch(rules, yes.as_slice(), locals, state, log)?;
-                    Ok(r)
-                }
-                Some(false) => {
-                    let r = run_branch(rules, other.as_slice(), locals, state, log)?;
-                    Ok(r)
-                }
+                Some(true) => run_branch(rules, yes.as_slice(), locals, state, log),
+                Some(false) => run_branch(rules, other.as_slice(), locals, state, log),
                 None => Ok(Flow::Blocked),
             }
         }
         Stmt::Case { of, none, some } => {
             match evaluate_option(rules, of, locals.as_slice(), state, log)? {
-                Some(Some(payload)) => {
-                    let r = run_some(rules, payload, some.as_slice(), locals, state, log)?;
-                    Ok(r)
-                }
-                Some(None) => {
-                    let r = run_branch(rules, none.as_slice(), locals, state, log)?;
-                    Ok(r)
-                }
+                Some(Some(payload)) => run_some(
+                    rules,
+                    payload,
+                    some.as_slice(),
+                    locals,
+                    state,
+                    log,
+                ),
+                Some(None) => run_branch(rules, none.as_slice(), locals, state, log),
                 None => Ok(Flow::Blocked),
             }
         }
-        Stmt::Assume(e) => {
-            let r = run_assume(rules, e, locals.as_slice(), state, log)?;
-            Ok(r)
-        }
-        Stmt::Return(e) => {
-            let r = run_return(rules, e, locals.as_slice(), state, log)?;
-            Ok(r)
-        }
+        Stmt::Assume(e) => run_assume(rules, e, locals.as_slice(), state, log),
+        Stmt::Return(e) => run_return(rules, e, locals.as_slice(), state, log),
     }
 }
 

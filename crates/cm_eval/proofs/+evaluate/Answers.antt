@@ -3,7 +3,6 @@ use denote.Param.Weighed.{most, at_most}
 use Rattle.cm_model.specs.declared.body.Expr.TheViews.{the_lemmas}
 use Rattle.cm_model.specs.declared.body.Expr.{size-Expr}
 use Rattle.cm_model.specs.declared.body.SetField.{size-SetField}
-use Rattle.cm_model.specs.declared.body.Expr.TheVariants as expr
 use Rattle.cm_value.specs.declared.value.Value.TheVariants as value
 use Rattle.cm_value.specs.Limits.{is_limited}
 use Rattle.cm_eval.specs.declared.operand.Operand.TheVariants as operand
@@ -11,7 +10,7 @@ use Rattle.cm_eval.specs.Script.{Blocks, Reads, Writes, given}
 use Rattle.cm_eval.specs.State.{look_up, put}
 use Rattle.cm_eval.specs.Comparison.{option_of}
 use Rattle.cm_eval.specs.Limits.{IsNear, are_limited, reach_of, stmt_reach, body_reach, key_reach}
-use Rattle.cm_eval.specs.Evaluation.{Doing, Called, called, meanings, body_of, let_of, write_of, if_of, case_of, assume_of, return_of, branch_of, some_branch_of, case_branch, opened, named, valued, inspected, inspects, number_of, value_of, compares_by, values_of, all_of, any_of, sets_of, value_at, with_field, opens, replaced_of, into_type, read_of, fields_of, with_of, make_of, some_of, into_of, compare_of, not_of, apply_of, fun_at, flag}
+use Rattle.cm_eval.specs.Evaluation.{Doing, Called, called, meanings, body_of, let_of, write_of, if_of, case_of, assume_of, return_of, branch_of, some_branch_of, case_branch, opened, named, valued, inspected, inspects, number_of, value_of, compares_by, values_of, all_of, any_of, sets_of, value_at, with_field, opens, replaced_of, into_type, fields_of, with_of, make_of, some_of, into_of, compare_of, not_of, apply_of, fun_at, flag}
 use Rattle.cm_eval.specs.Run.{logged, run}
 use Rattle.cm_model.specs.declared.body.Call.{Call}
 use Rattle.cm_eval.specs.Going.{Touches, Asks, block_in, stopped, goes_on, doing_of, funs_of, sets_in, turn_in}
@@ -21,8 +20,8 @@ use Rattle.cm_eval.proofs.Measures.{key_depth, depth_of, block_depth}
 use Rattle.cm_eval.proofs.Functions.{function_meaning, no_function}
 use Rattle.cm_eval.proofs.Touching.{read_gives, read_halts, write_goes, write_halts, asks_some, asks_none}
 use Rattle.cm_eval.specs.declared.flow.Flow.TheVariants as flow
-use Rattle.cm_eval.proofs.Nodes.{node_num, node_tag, node_local, node_whole, node_read, node_fields, node_with, node_make, node_none, node_some, node_into, node_compare, node_all, node_any, node_not, node_apply, turn_set, turn_if, turn_case}
-use Rattle.cm_eval.proofs.Steps.{thus, halt, gives, blocks, out, stuck, opt, mapped, answers, means, on_ok, turn, unroll, no_more, ended, renamed, turn_ends, turn_halts, turn_goes, turn_means, turn_locals, turn_scoped, turn_same, wrote, block_next, block_reply, block_blocked, outer_kept, take_front}
+use Rattle.cm_eval.proofs.Nodes.{node_num, node_tag, node_local, node_fields, node_with, node_make, node_none, node_some, node_into, node_compare, node_all, node_any, node_not, node_apply, turn_let, turn_set, turn_if, turn_case, turn_assume, turn_return}
+use Rattle.cm_eval.proofs.Steps.{thus, halt, gives, blocks, out, stuck, opt, mapped, answers, means, on_ok, on_end, on_any, turn, unroll, no_more, ended, renamed, turn_ends, turn_halts, turn_goes, turn_means, turn_locals, turn_scoped, turn_same, wrote, block_next, block_reply, block_blocked, outer_kept, take_front, take_own}
 use Rattle.cm_eval.proofs.Near.{near_of, near_sum, wide, wide_number, reach_number, fitting_number, fitting_of, base_small, sets_small, sets_fit}
 use Rattle.cm_eval.proofs.+evaluate.Goals as goal
 
@@ -154,14 +153,14 @@ expr::evaluate_cell-returns-in-Some t c = record { gives = out (λ v k. k (named
 pub expr::evaluate_cell-returns-in-None : goal.expr::evaluate_cell-returns-in-None
 expr::evaluate_cell-returns-in-None t c = record { gives = halt (λ v k. k (named c.args.s (Some v))) c.in_ok-key.ensures.gives c.in-None.is }
 
-pub expr::evaluate_compare-returns-in-Some-2-clause-gives : goal.expr::evaluate_compare-returns-in-Some-2-clause-gives
-expr::evaluate_compare-returns-in-Some-2-clause-gives t c = answers c.as_flag.ensures.flag (thus (λ x k. doing_of c.args.rules.now c.args.right.now c.args.locals.now (λ y. compares_by c.args.op x y (λ s. k (flag s)))) c.in-Some.x c.in_ok-x.ensures.gives c.in-Some.is (thus (λ y k. compares_by c.args.op c.in-Some.x y (λ s. k (flag s))) c.in-Some-2.y c.in_ok-y-in-Some.ensures.gives c.in-Some-2.is (mapped flag _ c.in_ok-r-in-Some-2.ensures.gives)))
-
-pub expr::evaluate_compare-returns-in-Some-clause-gives : goal.expr::evaluate_compare-returns-in-Some-clause-gives
-expr::evaluate_compare-returns-in-Some-clause-gives t c = thus (λ x k. doing_of c.args.rules.now c.args.right.now c.args.locals.now (λ y. compares_by c.args.op x y (λ s. k (flag s)))) c.in-Some.x c.in_ok-x.ensures.gives c.in-Some.is (halt (λ y k. compares_by c.args.op c.in-Some.x y (λ s. k (flag s))) c.in_ok-y-in-Some.ensures.gives c.in-None-2.is)
-
 pub expr::evaluate_compare-returns-clause-gives : goal.expr::evaluate_compare-returns-clause-gives
-expr::evaluate_compare-returns-clause-gives t c = halt (λ x k. doing_of c.args.rules.now c.args.right.now c.args.locals.now (λ y. compares_by c.args.op x y (λ s. k (flag s)))) c.in_ok-x.ensures.gives c.in-None.is
+expr::evaluate_compare-returns-clause-gives t c = on_ok c.compare_taken.result _ _ (λ o g. thus (λ x k. doing_of c.args.rules.now c.args.right.now c.args.locals.now (λ y. compares_by c.args.op x y (λ s. k (flag s)))) c.in-Some.x c.in_ok-x.ensures.gives c.in-Some.is (thus (λ y k. compares_by c.args.op c.in-Some.x y (λ s. k (flag s))) c.in-Some-2.y c.in_ok-y.ensures.gives c.in-Some-2.is g)) c.compare_taken.ensures.gives
+
+pub expr::evaluate_compare-returns-in_default-2-clause-gives : goal.expr::evaluate_compare-returns-in_default-2-clause-gives
+expr::evaluate_compare-returns-in_default-2-clause-gives t c = thus (λ x k. doing_of c.args.rules.now c.args.right.now c.args.locals.now (λ y. compares_by c.args.op x y (λ s. k (flag s)))) c.in-Some.x c.in_ok-x.ensures.gives c.in-Some.is (halt (λ y k. compares_by c.args.op c.in-Some.x y (λ s. k (flag s))) c.in_ok-y.ensures.gives c.in_default-2.is)
+
+pub expr::evaluate_compare-returns-in_default-clause-gives : goal.expr::evaluate_compare-returns-in_default-clause-gives
+expr::evaluate_compare-returns-in_default-clause-gives t c = halt (λ x k. doing_of c.args.rules.now c.args.right.now c.args.locals.now (λ y. compares_by c.args.op x y (λ s. k (flag s)))) c.in_ok-x.ensures.gives c.in_default.is
 
 pub expr::evaluate_fields-returns-in_ok-r-in-Some-clause-gives : goal.expr::evaluate_fields-returns-in_ok-r-in-Some-clause-gives
 expr::evaluate_fields-returns-in_ok-r-in-Some-clause-gives t c = answers c.in_ok-r-in-Some.ensures.field (thus (λ v k. given (value_at (Some v) c.args.path.now) (λ w. k (operand.Plain w))) c.in-Some.v c.in_ok-v.ensures.gives c.in-Some.is (mapped operand.Plain _ (opt (value_at (Some c.in-Some.v) c.args.path.now))))
@@ -345,23 +344,74 @@ stmt::run_some-returns-clause-gives t c = turn_locals (c.shrink.ensures.first �
 pub stmt::run_some-returns-clause-locals : goal.stmt::run_some-returns-clause-locals
 stmt::run_some-returns-clause-locals t c = c.shrink.ensures.first ∙ ap (λ n. take n c.run_block.new.locals) c.len-outer.ensures ∙ outer_kept c.args.locals.now c.push.new.self c.run_block.new.locals (ap (take (length c.args.locals.now)) c.in_ok-push.ensures.ok ∙ take_front c.args.locals.now (c.args.v ∷ [])) c.in_ok-r.ensures.outer
 
-pub stmt::run_statement-returns-in_ok-r-in-Set-clause-gives : goal.stmt::run_statement-returns-in_ok-r-in-Set-clause-gives
-stmt::run_statement-returns-in_ok-r-in-Set-clause-gives t c = turn_means (ap (turn_in c.args.rules.now) c.in-Set.is ∙ turn_set c.args.rules.now c.in-Set.s c.in-Set.key c.in-Set.value) (turn_same c.as_slice.ensures c.in_ok-r-in-Set.ensures.gives)
+pub stmt::run_statement-returns-in-Let-clause-gives : goal.stmt::run_statement-returns-in-Let-clause-gives
+stmt::run_statement-returns-in-Let-clause-gives t c = on_ok c.run_let.result _ _ (λ f g. turn_means (ap (turn_in c.args.rules.now) c.in-Let.is ∙ turn_let c.args.rules.now c.in-Let.e) g) c.run_let.ensures.gives
 
-pub stmt::run_statement-returns-in_ok-r-in-Some-true-clause-gives : goal.stmt::run_statement-returns-in_ok-r-in-Some-true-clause-gives
-stmt::run_statement-returns-in_ok-r-in-Some-true-clause-gives t c = turn_means (ap (turn_in c.args.rules.now) c.in-If.is ∙ turn_if c.args.rules.now c.in-If.cond c.in-If.yes c.in-If.other) (turn_goes (if_of (doing_of c.args.rules.now c.in-If.cond) (map (turn_in c.args.rules.now) c.in-If.yes) (map (turn_in c.args.rules.now) c.in-If.other)) (branch_of (map (turn_in c.args.rules.now) c.as_slice-in-Some-true.result.now)) c.args.locals.now (λ b ret next. if b then branch_of (map (turn_in c.args.rules.now) c.in-If.yes) c.args.locals.now ret next else branch_of (map (turn_in c.args.rules.now) c.in-If.other) c.args.locals.now ret next) true c.in_ok-evaluate_flag-in-If.ensures.gives (c.in-Some-true.is ∙ ap Some c.in-Some-true.field-0-test) (λ ret next. ap (λ ls. inspected (doing_of c.args.rules.now c.in-If.cond) ls (λ b. if b then branch_of (map (turn_in c.args.rules.now) c.in-If.yes) c.args.locals.now ret next else branch_of (map (turn_in c.args.rules.now) c.in-If.other) c.args.locals.now ret next)) (sym c.as_slice-in-If.ensures)) (λ ret next. ap (λ b. branch_of (map (turn_in c.args.rules.now) b) c.args.locals.now ret next) (sym c.as_slice-in-Some-true.ensures)) c.in_ok-r-in-Some-true.ensures.gives)
+pub stmt::run_statement-returns-in-Assume-clause-gives : goal.stmt::run_statement-returns-in-Assume-clause-gives
+stmt::run_statement-returns-in-Assume-clause-gives t c = on_ok c.run_assume.result _ _ (λ f g. turn_means (ap (turn_in c.args.rules.now) c.in-Assume.is ∙ turn_assume c.args.rules.now c.in-Assume.e) (turn_same c.as_slice-in-Assume.ensures g)) c.run_assume.ensures.gives
 
-pub stmt::run_statement-returns-in_ok-r-in-Some-false-clause-gives : goal.stmt::run_statement-returns-in_ok-r-in-Some-false-clause-gives
-stmt::run_statement-returns-in_ok-r-in-Some-false-clause-gives t c = turn_means (ap (turn_in c.args.rules.now) c.in-If.is ∙ turn_if c.args.rules.now c.in-If.cond c.in-If.yes c.in-If.other) (turn_goes (if_of (doing_of c.args.rules.now c.in-If.cond) (map (turn_in c.args.rules.now) c.in-If.yes) (map (turn_in c.args.rules.now) c.in-If.other)) (branch_of (map (turn_in c.args.rules.now) c.as_slice-in-Some-false.result.now)) c.args.locals.now (λ b ret next. if b then branch_of (map (turn_in c.args.rules.now) c.in-If.yes) c.args.locals.now ret next else branch_of (map (turn_in c.args.rules.now) c.in-If.other) c.args.locals.now ret next) false c.in_ok-evaluate_flag-in-If.ensures.gives (c.in-Some-false.is ∙ ap Some c.in-Some-false.field-0-test) (λ ret next. ap (λ ls. inspected (doing_of c.args.rules.now c.in-If.cond) ls (λ b. if b then branch_of (map (turn_in c.args.rules.now) c.in-If.yes) c.args.locals.now ret next else branch_of (map (turn_in c.args.rules.now) c.in-If.other) c.args.locals.now ret next)) (sym c.as_slice-in-If.ensures)) (λ ret next. ap (λ b. branch_of (map (turn_in c.args.rules.now) b) c.args.locals.now ret next) (sym c.as_slice-in-Some-false.ensures)) c.in_ok-r-in-Some-false.ensures.gives)
+pub stmt::run_statement-returns-in-Return-clause-gives : goal.stmt::run_statement-returns-in-Return-clause-gives
+stmt::run_statement-returns-in-Return-clause-gives t c = on_ok c.run_return.result _ _ (λ f g. turn_means (ap (turn_in c.args.rules.now) c.in-Return.is ∙ turn_return c.args.rules.now c.in-Return.e) (turn_same c.as_slice-in-Return.ensures g)) c.run_return.ensures.gives
+
+pub stmt::run_statement-returns-in-Set-clause-gives : goal.stmt::run_statement-returns-in-Set-clause-gives
+stmt::run_statement-returns-in-Set-clause-gives t c = on_ok c.run_set.result _ _ (λ f g. turn_means (ap (turn_in c.args.rules.now) c.in-Set.is ∙ turn_set c.args.rules.now c.in-Set.s c.in-Set.key c.in-Set.value) (turn_same c.as_slice.ensures g)) c.run_set.ensures.gives
+
+pub stmt::run_statement-returns-in-Set-clause-locals : goal.stmt::run_statement-returns-in-Set-clause-locals
+stmt::run_statement-returns-in-Set-clause-locals t c = on_any c.run_set.result _ c.requires.locals
+
+pub stmt::run_statement-returns-in-Set-clause-outer : goal.stmt::run_statement-returns-in-Set-clause-outer
+stmt::run_statement-returns-in-Set-clause-outer t c = on_any c.run_set.result _ (take_own c.args.locals.now)
+
+pub stmt::run_statement-returns-in-Assume-clause-locals : goal.stmt::run_statement-returns-in-Assume-clause-locals
+stmt::run_statement-returns-in-Assume-clause-locals t c = on_any c.run_assume.result _ c.requires.locals
+
+pub stmt::run_statement-returns-in-Assume-clause-outer : goal.stmt::run_statement-returns-in-Assume-clause-outer
+stmt::run_statement-returns-in-Assume-clause-outer t c = on_any c.run_assume.result _ (take_own c.args.locals.now)
+
+pub stmt::run_statement-returns-in-Return-clause-locals : goal.stmt::run_statement-returns-in-Return-clause-locals
+stmt::run_statement-returns-in-Return-clause-locals t c = on_any c.run_return.result _ c.requires.locals
+
+pub stmt::run_statement-returns-in-Return-clause-outer : goal.stmt::run_statement-returns-in-Return-clause-outer
+stmt::run_statement-returns-in-Return-clause-outer t c = on_any c.run_return.result _ (take_own c.args.locals.now)
+
+pub stmt::run_statement-returns-in-Some-true-clause-gives : goal.stmt::run_statement-returns-in-Some-true-clause-gives
+stmt::run_statement-returns-in-Some-true-clause-gives t c = on_ok c.run_branch.result _ _ (λ f g. turn_means (ap (turn_in c.args.rules.now) c.in-If.is ∙ turn_if c.args.rules.now c.in-If.cond c.in-If.yes c.in-If.other) (turn_goes (if_of (doing_of c.args.rules.now c.in-If.cond) (map (turn_in c.args.rules.now) c.in-If.yes) (map (turn_in c.args.rules.now) c.in-If.other)) (branch_of (map (turn_in c.args.rules.now) c.as_slice-in-Some-true.result.now)) c.args.locals.now (λ b ret next. if b then branch_of (map (turn_in c.args.rules.now) c.in-If.yes) c.args.locals.now ret next else branch_of (map (turn_in c.args.rules.now) c.in-If.other) c.args.locals.now ret next) true c.in_ok-evaluate_flag-in-If.ensures.gives (c.in-Some-true.is ∙ ap Some c.in-Some-true.field-0-test) (λ ret next. ap (λ ls. inspected (doing_of c.args.rules.now c.in-If.cond) ls (λ b. if b then branch_of (map (turn_in c.args.rules.now) c.in-If.yes) c.args.locals.now ret next else branch_of (map (turn_in c.args.rules.now) c.in-If.other) c.args.locals.now ret next)) (sym c.as_slice-in-If.ensures)) (λ ret next. ap (λ b. branch_of (map (turn_in c.args.rules.now) b) c.args.locals.now ret next) (sym c.as_slice-in-Some-true.ensures)) g)) c.run_branch.ensures.gives
+
+pub stmt::run_statement-returns-in-Some-true-clause-locals : goal.stmt::run_statement-returns-in-Some-true-clause-locals
+stmt::run_statement-returns-in-Some-true-clause-locals t c = on_end c.run_branch.result _ _ (λ e. subst (λ ls. IsTrue (are_limited ls)) (sym e) c.requires.locals) c.run_branch.ensures.locals
+
+pub stmt::run_statement-returns-in-Some-true-clause-outer : goal.stmt::run_statement-returns-in-Some-true-clause-outer
+stmt::run_statement-returns-in-Some-true-clause-outer t c = on_end c.run_branch.result _ _ (λ e. ap (take (length c.args.locals.now)) e ∙ take_own c.args.locals.now) c.run_branch.ensures.locals
+
+pub stmt::run_statement-returns-in-Some-false-clause-gives : goal.stmt::run_statement-returns-in-Some-false-clause-gives
+stmt::run_statement-returns-in-Some-false-clause-gives t c = on_ok c.run_branch-in-Some-false.result _ _ (λ f g. turn_means (ap (turn_in c.args.rules.now) c.in-If.is ∙ turn_if c.args.rules.now c.in-If.cond c.in-If.yes c.in-If.other) (turn_goes (if_of (doing_of c.args.rules.now c.in-If.cond) (map (turn_in c.args.rules.now) c.in-If.yes) (map (turn_in c.args.rules.now) c.in-If.other)) (branch_of (map (turn_in c.args.rules.now) c.as_slice-in-Some-false.result.now)) c.args.locals.now (λ b ret next. if b then branch_of (map (turn_in c.args.rules.now) c.in-If.yes) c.args.locals.now ret next else branch_of (map (turn_in c.args.rules.now) c.in-If.other) c.args.locals.now ret next) false c.in_ok-evaluate_flag-in-If.ensures.gives (c.in-Some-false.is ∙ ap Some c.in-Some-false.field-0-test) (λ ret next. ap (λ ls. inspected (doing_of c.args.rules.now c.in-If.cond) ls (λ b. if b then branch_of (map (turn_in c.args.rules.now) c.in-If.yes) c.args.locals.now ret next else branch_of (map (turn_in c.args.rules.now) c.in-If.other) c.args.locals.now ret next)) (sym c.as_slice-in-If.ensures)) (λ ret next. ap (λ b. branch_of (map (turn_in c.args.rules.now) b) c.args.locals.now ret next) (sym c.as_slice-in-Some-false.ensures)) g)) c.run_branch-in-Some-false.ensures.gives
+
+pub stmt::run_statement-returns-in-Some-false-clause-locals : goal.stmt::run_statement-returns-in-Some-false-clause-locals
+stmt::run_statement-returns-in-Some-false-clause-locals t c = on_end c.run_branch-in-Some-false.result _ _ (λ e. subst (λ ls. IsTrue (are_limited ls)) (sym e) c.requires.locals) c.run_branch-in-Some-false.ensures.locals
+
+pub stmt::run_statement-returns-in-Some-false-clause-outer : goal.stmt::run_statement-returns-in-Some-false-clause-outer
+stmt::run_statement-returns-in-Some-false-clause-outer t c = on_end c.run_branch-in-Some-false.result _ _ (λ e. ap (take (length c.args.locals.now)) e ∙ take_own c.args.locals.now) c.run_branch-in-Some-false.ensures.locals
 
 pub stmt::run_statement-returns-in-None-clause-gives : goal.stmt::run_statement-returns-in-None-clause-gives
 stmt::run_statement-returns-in-None-clause-gives t c = turn_means (ap (turn_in c.args.rules.now) c.in-If.is ∙ turn_if c.args.rules.now c.in-If.cond c.in-If.yes c.in-If.other) (turn_halts (if_of (doing_of c.args.rules.now c.in-If.cond) (map (turn_in c.args.rules.now) c.in-If.yes) (map (turn_in c.args.rules.now) c.in-If.other)) c.args.locals.now c.args.locals.now (λ b ret next. if b then branch_of (map (turn_in c.args.rules.now) c.in-If.yes) c.args.locals.now ret next else branch_of (map (turn_in c.args.rules.now) c.in-If.other) c.args.locals.now ret next) c.in_ok-evaluate_flag-in-If.ensures.gives c.in-None.is (λ ret next. ap (λ ls. inspected (doing_of c.args.rules.now c.in-If.cond) ls (λ b. if b then branch_of (map (turn_in c.args.rules.now) c.in-If.yes) c.args.locals.now ret next else branch_of (map (turn_in c.args.rules.now) c.in-If.other) c.args.locals.now ret next)) (sym c.as_slice-in-If.ensures)))
 
-pub stmt::run_statement-returns-in_ok-r-in-Some-Some-clause-gives : goal.stmt::run_statement-returns-in_ok-r-in-Some-Some-clause-gives
-stmt::run_statement-returns-in_ok-r-in-Some-Some-clause-gives t c = turn_means (ap (turn_in c.args.rules.now) c.in-Case.is ∙ turn_case c.args.rules.now c.in-Case.of c.in-Case.none c.in-Case.some) (turn_goes (case_of (doing_of c.args.rules.now c.in-Case.of) (map (turn_in c.args.rules.now) c.in-Case.none) (map (turn_in c.args.rules.now) c.in-Case.some)) (some_branch_of c.in-Some-Some.payload (map (turn_in c.args.rules.now) c.as_slice-in-Some-Some.result.now)) c.args.locals.now (λ o ret next. case_branch (map (turn_in c.args.rules.now) c.in-Case.none) (map (turn_in c.args.rules.now) c.in-Case.some) o c.args.locals.now ret next) (Some c.in-Some-Some.payload) c.in_ok-payload-in-Case.ensures.gives (c.in-Some-Some.is ∙ ap Some c.in-Some-Some.field-0-is) (λ ret next. ap (λ ls. opened (doing_of c.args.rules.now c.in-Case.of) ls (λ o. case_branch (map (turn_in c.args.rules.now) c.in-Case.none) (map (turn_in c.args.rules.now) c.in-Case.some) o c.args.locals.now ret next)) (sym c.as_slice-in-Case.ensures)) (λ ret next. ap (λ b. some_branch_of c.in-Some-Some.payload (map (turn_in c.args.rules.now) b) c.args.locals.now ret next) (sym c.as_slice-in-Some-Some.ensures)) c.in_ok-r-in-Some-Some.ensures.gives)
+pub stmt::run_statement-returns-in-Some-Some-clause-gives : goal.stmt::run_statement-returns-in-Some-Some-clause-gives
+stmt::run_statement-returns-in-Some-Some-clause-gives t c = on_ok c.run_some.result _ _ (λ f g. turn_means (ap (turn_in c.args.rules.now) c.in-Case.is ∙ turn_case c.args.rules.now c.in-Case.of c.in-Case.none c.in-Case.some) (turn_goes (case_of (doing_of c.args.rules.now c.in-Case.of) (map (turn_in c.args.rules.now) c.in-Case.none) (map (turn_in c.args.rules.now) c.in-Case.some)) (some_branch_of c.in-Some-Some.payload (map (turn_in c.args.rules.now) c.as_slice-in-Some-Some.result.now)) c.args.locals.now (λ o ret next. case_branch (map (turn_in c.args.rules.now) c.in-Case.none) (map (turn_in c.args.rules.now) c.in-Case.some) o c.args.locals.now ret next) (Some c.in-Some-Some.payload) c.in_ok-payload-in-Case.ensures.gives (c.in-Some-Some.is ∙ ap Some c.in-Some-Some.field-0-is) (λ ret next. ap (λ ls. opened (doing_of c.args.rules.now c.in-Case.of) ls (λ o. case_branch (map (turn_in c.args.rules.now) c.in-Case.none) (map (turn_in c.args.rules.now) c.in-Case.some) o c.args.locals.now ret next)) (sym c.as_slice-in-Case.ensures)) (λ ret next. ap (λ b. some_branch_of c.in-Some-Some.payload (map (turn_in c.args.rules.now) b) c.args.locals.now ret next) (sym c.as_slice-in-Some-Some.ensures)) g)) c.run_some.ensures.gives
 
-pub stmt::run_statement-returns-in_ok-r-in-Some-None-clause-gives : goal.stmt::run_statement-returns-in_ok-r-in-Some-None-clause-gives
-stmt::run_statement-returns-in_ok-r-in-Some-None-clause-gives t c = turn_means (ap (turn_in c.args.rules.now) c.in-Case.is ∙ turn_case c.args.rules.now c.in-Case.of c.in-Case.none c.in-Case.some) (turn_goes (case_of (doing_of c.args.rules.now c.in-Case.of) (map (turn_in c.args.rules.now) c.in-Case.none) (map (turn_in c.args.rules.now) c.in-Case.some)) (branch_of (map (turn_in c.args.rules.now) c.as_slice-in-Some-None.result.now)) c.args.locals.now (λ o ret next. case_branch (map (turn_in c.args.rules.now) c.in-Case.none) (map (turn_in c.args.rules.now) c.in-Case.some) o c.args.locals.now ret next) None c.in_ok-payload-in-Case.ensures.gives (c.in-Some-None.is ∙ ap Some c.in-Some-None.field-0-is) (λ ret next. ap (λ ls. opened (doing_of c.args.rules.now c.in-Case.of) ls (λ o. case_branch (map (turn_in c.args.rules.now) c.in-Case.none) (map (turn_in c.args.rules.now) c.in-Case.some) o c.args.locals.now ret next)) (sym c.as_slice-in-Case.ensures)) (λ ret next. ap (λ b. branch_of (map (turn_in c.args.rules.now) b) c.args.locals.now ret next) (sym c.as_slice-in-Some-None.ensures)) c.in_ok-r-in-Some-None.ensures.gives)
+pub stmt::run_statement-returns-in-Some-Some-clause-locals : goal.stmt::run_statement-returns-in-Some-Some-clause-locals
+stmt::run_statement-returns-in-Some-Some-clause-locals t c = on_end c.run_some.result _ _ (λ e. subst (λ ls. IsTrue (are_limited ls)) (sym e) c.requires.locals) c.run_some.ensures.locals
+
+pub stmt::run_statement-returns-in-Some-Some-clause-outer : goal.stmt::run_statement-returns-in-Some-Some-clause-outer
+stmt::run_statement-returns-in-Some-Some-clause-outer t c = on_end c.run_some.result _ _ (λ e. ap (take (length c.args.locals.now)) e ∙ take_own c.args.locals.now) c.run_some.ensures.locals
+
+pub stmt::run_statement-returns-in-Some-None-clause-gives : goal.stmt::run_statement-returns-in-Some-None-clause-gives
+stmt::run_statement-returns-in-Some-None-clause-gives t c = on_ok c.run_branch-in-Some-None.result _ _ (λ f g. turn_means (ap (turn_in c.args.rules.now) c.in-Case.is ∙ turn_case c.args.rules.now c.in-Case.of c.in-Case.none c.in-Case.some) (turn_goes (case_of (doing_of c.args.rules.now c.in-Case.of) (map (turn_in c.args.rules.now) c.in-Case.none) (map (turn_in c.args.rules.now) c.in-Case.some)) (branch_of (map (turn_in c.args.rules.now) c.as_slice-in-Some-None.result.now)) c.args.locals.now (λ o ret next. case_branch (map (turn_in c.args.rules.now) c.in-Case.none) (map (turn_in c.args.rules.now) c.in-Case.some) o c.args.locals.now ret next) None c.in_ok-payload-in-Case.ensures.gives (c.in-Some-None.is ∙ ap Some c.in-Some-None.field-0-is) (λ ret next. ap (λ ls. opened (doing_of c.args.rules.now c.in-Case.of) ls (λ o. case_branch (map (turn_in c.args.rules.now) c.in-Case.none) (map (turn_in c.args.rules.now) c.in-Case.some) o c.args.locals.now ret next)) (sym c.as_slice-in-Case.ensures)) (λ ret next. ap (λ b. branch_of (map (turn_in c.args.rules.now) b) c.args.locals.now ret next) (sym c.as_slice-in-Some-None.ensures)) g)) c.run_branch-in-Some-None.ensures.gives
+
+pub stmt::run_statement-returns-in-Some-None-clause-locals : goal.stmt::run_statement-returns-in-Some-None-clause-locals
+stmt::run_statement-returns-in-Some-None-clause-locals t c = on_end c.run_branch-in-Some-None.result _ _ (λ e. subst (λ ls. IsTrue (are_limited ls)) (sym e) c.requires.locals) c.run_branch-in-Some-None.ensures.locals
+
+pub stmt::run_statement-returns-in-Some-None-clause-outer : goal.stmt::run_statement-returns-in-Some-None-clause-outer
+stmt::run_statement-returns-in-Some-None-clause-outer t c = on_end c.run_branch-in-Some-None.result _ _ (λ e. ap (take (length c.args.locals.now)) e ∙ take_own c.args.locals.now) c.run_branch-in-Some-None.ensures.locals
 
 pub stmt::run_statement-returns-in-None-2-clause-gives : goal.stmt::run_statement-returns-in-None-2-clause-gives
 stmt::run_statement-returns-in-None-2-clause-gives t c = turn_means (ap (turn_in c.args.rules.now) c.in-Case.is ∙ turn_case c.args.rules.now c.in-Case.of c.in-Case.none c.in-Case.some) (turn_halts (case_of (doing_of c.args.rules.now c.in-Case.of) (map (turn_in c.args.rules.now) c.in-Case.none) (map (turn_in c.args.rules.now) c.in-Case.some)) c.args.locals.now c.args.locals.now (λ o ret next. case_branch (map (turn_in c.args.rules.now) c.in-Case.none) (map (turn_in c.args.rules.now) c.in-Case.some) o c.args.locals.now ret next) c.in_ok-payload-in-Case.ensures.gives c.in-None-2.is (λ ret next. ap (λ ls. opened (doing_of c.args.rules.now c.in-Case.of) ls (λ o. case_branch (map (turn_in c.args.rules.now) c.in-Case.none) (map (turn_in c.args.rules.now) c.in-Case.some) o c.args.locals.now ret next)) (sym c.as_slice-in-Case.ensures)))
