@@ -8,12 +8,16 @@ use std::alloc::Global;
 use std::test::Fail;
 
 const TRUE: Option<Given> = Some(Flag(true));
+
 const FALSE: Option<Given> = Some(Flag(false));
 
 // The calls of `routines`.
 const TELL: u16 = 0;
+
 const MUST: u16 = 1;
+
 const BOTH: u16 = 2;
+
 const EITHER: u16 = 3;
 
 #[test]
@@ -72,8 +76,11 @@ fn routines_where_on_is_true(alloc: Global) -> Result<bool, NoMemory> {
 
 // The calls of `records`, and that of `payloads` which reads one.
 const SAME: u16 = 0;
+
 const FILL: u16 = 1;
+
 const FIRST: u16 = 2;
+
 const PAYLOAD: u16 = 1;
 
 #[test]

@@ -54,7 +54,12 @@ pub struct CalledRow<'a> {
     steps: &'a [u8],
 }
 
-pub fn row<'a>(call: u16, args: &'a [Given], reply: Option<Given>, steps: &'a [u8]) -> CalledRow<'a> {
+pub fn row<'a>(
+    call: u16,
+    args: &'a [Given],
+    reply: Option<Given>,
+    steps: &'a [u8],
+) -> CalledRow<'a> {
     CalledRow {
         call,
         args,
@@ -193,7 +198,9 @@ fn are_held(exceptions: &[Except], wanted: &[HeldCell]) -> bool {
     for (i, cell) in wanted.iter().enumerate() {
         match exceptions.get(i) {
             Some(exception) => {
-                if !is_cell(&exception.cell, cell.state, cell.key) || !is(&exception.value, cell.value) {
+                if !is_cell(&exception.cell, cell.state, cell.key)
+                    || !is(&exception.value, cell.value)
+                {
                     return false;
                 }
             }
@@ -217,7 +224,12 @@ fn is_key(key: &Option<Value>, wanted: Option<u64>) -> bool {
 }
 
 /// Whether what is told of a world is right, and it is a world of the pair.
-pub fn has_path(alloc: Global, model: &Model, pair: Pair, placed: Placed) -> Result<bool, NoMemory> {
+pub fn has_path(
+    alloc: Global,
+    model: &Model,
+    pair: Pair,
+    placed: Placed,
+) -> Result<bool, NoMemory> {
     let world = world_of(alloc, model, placed)?;
     if !is_world_of(model, pair, &world) {
         return Ok(false);
@@ -226,7 +238,12 @@ pub fn has_path(alloc: Global, model: &Model, pair: Pair, placed: Placed) -> Res
 }
 
 /// Whether this is a world of the pair.
-pub fn is_world(alloc: Global, model: &Model, pair: Pair, placed: Placed) -> Result<bool, NoMemory> {
+pub fn is_world(
+    alloc: Global,
+    model: &Model,
+    pair: Pair,
+    placed: Placed,
+) -> Result<bool, NoMemory> {
     let world = world_of(alloc, model, placed)?;
     Ok(is_world_of(model, pair, &world))
 }

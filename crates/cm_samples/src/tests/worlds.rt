@@ -10,12 +10,7 @@ use std::test::Fail;
 // The first call paired with itself.
 const SELF: Pair = Pair { a: 0, b: 0 };
 
-fn are_told(
-    alloc: Global,
-    model: &Model,
-    pair: Pair,
-    worlds: &[Placed],
-) -> Result<bool, NoMemory> {
+fn are_told(alloc: Global, model: &Model, pair: Pair, worlds: &[Placed]) -> Result<bool, NoMemory> {
     for world in worlds {
         if !has_path(alloc, model, pair, *world)? {
             return Ok(false);
@@ -238,13 +233,15 @@ fn worlds_of_other_pairs_are_none(alloc: Global) -> Result<bool, NoMemory> {
 }
 
 fn inc_has_no_others(alloc: Global, model: &Model) -> Result<bool, NoMemory> {
-    Ok(is_none(alloc, model, SELF, &[], &[Number(1)])?
-        && is_none(alloc, model, SELF, &[held(0, None, Number(4))], &[])?
-        && is_none(alloc, model, SELF, &[held(0, None, Elem(1))], &[])?
-        && is_none(alloc, model, SELF, &[held(0, Some(0), Number(1))], &[])?
-        && is_none(alloc, model, SELF, &[held(1, None, Number(1))], &[])?
-        && is_none(alloc, model, Pair { a: 0, b: 1 }, &[], &[])?
-        && !is_none(alloc, model, SELF, &[held(0, None, Number(3))], &[])?)
+    Ok(
+        is_none(alloc, model, SELF, &[], &[Number(1)])?
+            && is_none(alloc, model, SELF, &[held(0, None, Number(4))], &[])?
+            && is_none(alloc, model, SELF, &[held(0, None, Elem(1))], &[])?
+            && is_none(alloc, model, SELF, &[held(0, Some(0), Number(1))], &[])?
+            && is_none(alloc, model, SELF, &[held(1, None, Number(1))], &[])?
+            && is_none(alloc, model, Pair { a: 0, b: 1 }, &[], &[])?
+            && !is_none(alloc, model, SELF, &[held(0, None, Number(3))], &[])?,
+    )
 }
 
 fn is_none(
