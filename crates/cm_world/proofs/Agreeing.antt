@@ -1,12 +1,11 @@
 -- Two states with the same defaults are equal where they agree at the exceptions of both.
-use Rattle.std.proofs.Common.{◌≡◌, ℕ, zero, suc, ◌<◌, Bool, true, false, List, [], ◌∷◌, length, get_or, Option, Some, None, slice_get, IsTrue, ◌↔◌, refl, sym, ap, ◌∙◌, subst, arith, if◌then◌else◌}
+use Rattle.std.proofs.Common.{◌≡◌, suc, Bool, true, false, List, [], ◌∷◌, get_or, Option, Some, None, slice_get, refl, sym, ap, ◌∙◌, subst, arith, if◌then◌else◌}
 use Rattle.cm_model.specs.Tables.{Tables}
 use Rattle.cm_value.specs.declared.value.Value.{Value}
 use Rattle.cm_eval.specs.declared.log.CellName.{CellName}
 use Rattle.cm_eval.specs.declared.state.Except.{Except}
-use Rattle.cm_eval.specs.State.{Store, look_up, exception_of, same_cell, or_default}
+use Rattle.cm_eval.specs.State.{Store, exception_of, same_cell, or_default}
 use Rattle.cm_eval.proofs.Same.{same_cell_equal}
-use Rattle.cm_world.specs.World.{IsCellOf}
 use Rattle.cm_world.specs.Commuting.{SameState}
 use Rattle.cm_world.specs.Ran.{Agree, AllAgree}
 

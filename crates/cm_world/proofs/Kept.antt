@@ -1,6 +1,5 @@
 -- What a run keeps of the state and of the touched cells.
 use Rattle.std.proofs.Common.{◌≡◌, ℕ, ◌+◌, ◌==◌, Bool, true, false, List, [], ◌∷◌, ◌++◌, map, length, Option, Some, None, slice_get, refl, if◌then◌else◌}
-use Rattle.cm_model.specs.Tables.{Tables}
 use Rattle.cm_model.specs.declared.ty.IntDecl.{IntDecl}
 use Rattle.cm_model.specs.declared.body.Expr.{Expr}
 use Rattle.cm_model.specs.declared.body.StateDecl.{StateDecl}
@@ -11,8 +10,8 @@ use Rattle.cm_eval.specs.declared.log.CellName.{CellName}
 use Rattle.cm_eval.specs.Script.{Replies, Blocks, Decides, Reads, Writes}
 use Rattle.cm_eval.specs.Comparison.{Comparing, comparison_step, fields_compared, payload_compared, or_stop, elem_of, int_of, tag_of, parts_of, option_of, variant, distinguished, ordered, presence}
 use Rattle.cm_eval.specs.State.{Store, Touched, look_up, put, with_cell, marked}
-use Rattle.cm_eval.specs.Evaluation.{Doing, call_of, invariant_of}
-use Rattle.cm_eval.specs.Run.{Trace, Replied, Blocked, Logs, End, Ended, Stopped, logged, run, asked, checked, is_true, keys_compared, cells_compared, touch_of, added, touched_with, touched_at, evaluation_of}
+use Rattle.cm_eval.specs.Evaluation.{Doing, invariant_of}
+use Rattle.cm_eval.specs.Run.{Trace, Replied, Blocked, Logs, End, Ended, Stopped, logged, run, asked, checked, is_true, keys_compared, cells_compared, touch_of, added, touched_with, touched_at}
 use Rattle.cm_eval.specs.Going.{compared_in}
 use Rattle.cm_eval.proofs.Folds.{fold_related, Related}
 

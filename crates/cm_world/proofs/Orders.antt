@@ -1,8 +1,7 @@
 -- Both orders keep the defaults, and touch cells of declared states only.
-use Rattle.std.proofs.Common.{◌≡◌, ℕ, ◌<◌, List, [], ◌∷◌, ◌++◌, length, Option, Some, None, slice_get, refl, subst}
+use Rattle.std.proofs.Common.{◌≡◌, ℕ, ◌<◌, List, [], ◌∷◌, ◌++◌, length, refl, subst}
 use Rattle.std.proofs.lemmas.Option.{slice_get_within}
 use Rattle.cm_model.specs.Tables.{Tables}
-use Rattle.cm_model.specs.declared.body.StateDecl.{StateDecl}
 use Rattle.cm_model.specs.declared.pair.Pair.{Pair}
 use Rattle.cm_value.specs.declared.value.Value.{Value}
 use Rattle.cm_eval.specs.declared.log.CellName.{CellName}

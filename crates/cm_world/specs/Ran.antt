@@ -1,5 +1,5 @@
 -- What the crate's functions give, as the definitions have it, and what they say of themselves.
-use Rattle.std.specs.Prelude.{◌≡◌, ℕ, ◌<◌, Bool, List, [], ◌∷◌, ◌++◌, map, length, get_or, Option, if◌then◌else◌}
+use Rattle.std.specs.Prelude.{◌≡◌, ℕ, ◌<◌, Bool, List, [], ◌∷◌, ◌++◌, map, length, get_or, if◌then◌else◌}
 use Rattle.cm_model.specs.Tables.{Tables}
 use Rattle.cm_value.specs.declared.value.Value.{Value}
 use Rattle.cm_eval.specs.declared.log.Log.{Log}
@@ -13,7 +13,7 @@ use Rattle.cm_world.specs.declared.order.BothOrders.{BothOrders}
 use Rattle.cm_world.specs.declared.order.BothOrders.TheVariants as both
 use Rattle.cm_world.specs.Order.{OrderEnd, Replied, Blocked, BothEnd, BothReplied, OneBlocked}
 use Rattle.cm_world.specs.World.{IsCellOf}
-use Rattle.cm_world.specs.Path.{inspecting, fields_inspected, cell_inspected, variants_inspected}
+use Rattle.cm_world.specs.Path.{inspecting, fields_inspected}
 
 abbrev pub order_end : OneOrder → Log → OrderEnd
 order_end (one.Replied v w s) l = Replied v w s (touched_of l) l.steps

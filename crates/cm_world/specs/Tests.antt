@@ -1,9 +1,8 @@
 -- The tests of a pair: one for each signature that a commuting world has.
-use Rattle.std.specs.Prelude.{◌≡◌, ℕ, ◌<◌, ◌≤◌, ltb, Bool, true, false, List, [], ◌∷◌, map, length, get_or, ℤ, pos, ◌≤ℤ◌, IsTrue, if◌then◌else◌}
+use Rattle.std.specs.Prelude.{◌≡◌, ℕ, ◌<◌, ◌≤◌, Bool, true, false, List, [], ◌∷◌, map, length, get_or, ℤ, ◌≤ℤ◌, IsTrue, if◌then◌else◌}
 use Rattle.cm_model.specs.Tables.{Tables}
 use Rattle.cm_model.specs.declared.pair.Pair.{Pair}
 use Rattle.cm_value.specs.Least.{least_of}
-use Rattle.cm_eval.specs.State.{least_store}
 use Rattle.cm_world.specs.declared.world.World.{World}
 use Rattle.cm_world.specs.declared.pair_tests.PairTests.{PairTests}
 use Rattle.cm_world.specs.declared.pair_tests.PairTests.TheVariants as tests

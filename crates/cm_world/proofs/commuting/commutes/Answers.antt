@@ -1,5 +1,4 @@
-use Rattle.std.proofs.Common.{◌≡◌, length, sym, ap, ◌∙◌}
-use Rattle.cm_eval.specs.State.{Store}
+use Rattle.std.proofs.Common.{length, sym, ap, ◌∙◌}
 use Rattle.cm_world.proofs.Orders.{ran_fine}
 use Rattle.cm_world.proofs.Typed.{arguments_limited, one_default_each}
 use Rattle.cm_world.proofs.commuting.commutes.Goals as goal

@@ -1,4 +1,3 @@
-use Rattle.std.proofs.Common.{arith}
 use Rattle.cm_world.proofs.Fields.{short}
 use Rattle.cm_world.proofs.path.+inspect.Goals as goal
 

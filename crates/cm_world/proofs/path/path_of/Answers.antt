@@ -1,4 +1,4 @@
-use Rattle.std.proofs.Common.{◌≡◌, ℕ, length, sym, ap, ◌∙◌, subst}
+use Rattle.std.proofs.Common.{length, sym, ap, ◌∙◌, subst}
 use Rattle.cm_world.specs.Ran.{AreDeclared}
 use Rattle.cm_world.proofs.Orders.{ran_fine}
 use Rattle.cm_world.proofs.Typed.{arguments_limited, one_default_each}
