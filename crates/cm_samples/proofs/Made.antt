@@ -1,6 +1,6 @@
 -- Tables of these lists.
 use Rattle.std.proofs.Common.{◌≡◌, ℕ, List, refl, sym, subst}
-use Rattle.cm_model.specs.Tables.{Tables, tables}
+use Rattle.cm_model.specs.Tables.{tables}
 use Rattle.cm_model.specs.WellTyped.{IsWellTyped}
 use Rattle.cm_model.specs.declared.ty.IntDecl.{IntDecl}
 use Rattle.cm_model.specs.declared.ty.EnumDecl.{EnumDecl}

@@ -1,5 +1,5 @@
 -- What the forms of expressions and statements mean, on locals and with what is done next.
-use Rattle.std.proofs.Common.{◌≡◌, ℕ, ℤ, Bool, List, [], ◌∷◌, map, Option, Some, None, ap}
+use Rattle.std.proofs.Common.{◌≡◌, ℕ, ℤ, Bool, List, map, Option, Some, None, ap}
 use Rattle.std.specs.Prelude.{slice_get}
 use Rattle.cm_model.specs.declared.ty.IntDecl.{IntDecl}
 use Rattle.cm_model.specs.declared.body.Op.{Op}
@@ -14,7 +14,7 @@ use Rattle.cm_value.proofs.Folds.{fold-elem}
 use Rattle.cm_eval.specs.declared.operand.Operand.{Operand}
 use Rattle.cm_eval.specs.declared.operand.Operand.TheVariants as operand
 use Rattle.cm_eval.specs.State.{same_value, same_form}
-use Rattle.cm_eval.specs.Evaluation.{Doing, Meaning, Called, Turn, meaning_of, meaning_step, set_step, key_meaning, local_of, read_of, shift_of, into_of, compare_of, not_of, some_of, flag, turn_of, turn_step, let_of, set_of, if_of, assume_of, return_of}
+use Rattle.cm_eval.specs.Evaluation.{Doing, Meaning, Called, Turn, meaning_of, meaning_step, set_step, key_meaning, local_of, read_of, shift_of, into_of, compare_of, not_of, some_of, turn_of, turn_step, let_of, set_of, if_of, assume_of, return_of}
 use Rattle.cm_samples.proofs.Forms.{fold-num, fold-tag, fold-local, fold-whole, fold-read, fold-some, fold-shift, fold-into, fold-compare, fold-not, fold-let, fold-set, fold-if, fold-assume, fold-return}
 
 module _ (ints : List IntDecl) (funs : List Called) where

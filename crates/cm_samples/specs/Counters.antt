@@ -1,5 +1,5 @@
 -- Models of one number.
-use Rattle.std.specs.Prelude.{pos, List, [], ◌∷◌, codes, Option, Some, None}
+use Rattle.std.specs.Prelude.{pos, [], ◌∷◌, codes, Some, None}
 use Rattle.cm_model.specs.Tables.{Tables, tables}
 use Rattle.cm_model.specs.declared.ty.Ty.TheVariants as ty
 use Rattle.cm_model.specs.declared.ty.IntDecl.{IntDecl}

@@ -1,5 +1,5 @@
 -- Models whose cells are bools.
-use Rattle.std.specs.Prelude.{List, [], ◌∷◌, codes, Option, Some, None}
+use Rattle.std.specs.Prelude.{[], ◌∷◌, codes, Some, None}
 use Rattle.cm_model.specs.Tables.{Tables, tables}
 use Rattle.cm_model.specs.declared.ty.Ty.TheVariants as ty
 use Rattle.cm_model.specs.declared.body.Expr.{Expr}

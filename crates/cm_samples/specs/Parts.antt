@@ -1,5 +1,5 @@
 -- Pieces that the models have in common.
-use Rattle.std.specs.Prelude.{ℕ, List, [], ◌∷◌, length, codes, Option, Some, None}
+use Rattle.std.specs.Prelude.{ℕ, List, [], ◌∷◌, codes, Option, Some, None}
 use Rattle.cm_model.specs.declared.ty.Ty.{Ty}
 use Rattle.cm_model.specs.declared.ty.Ty.TheVariants as ty
 use Rattle.cm_model.specs.declared.ty.Part.{Part}
