@@ -6,5 +6,8 @@ pub mod TypedRegisters
 pub mod TypedFunctions
 pub mod TypedPoints
 pub mod TypedOptions
+pub mod Firsts
+pub mod Deep
+pub mod TypedDepth
 pub mod Meanings
 pub mod ExamplesCompute

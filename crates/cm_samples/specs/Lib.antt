@@ -5,4 +5,5 @@ pub mod Registers
 pub mod Functions
 pub mod Points
 pub mod Options
+pub mod Depth
 pub mod Examples

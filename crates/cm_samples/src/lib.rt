@@ -2,6 +2,7 @@
 #![tactic(auto)]
 
 mod counters;
+mod depth;
 mod flags;
 mod functions;
 mod options;
@@ -10,6 +11,7 @@ mod points;
 mod registers;
 
 pub use counters::{bounded, inc, max, next};
+pub use depth::deepest;
 pub use flags::{fire, open, unset};
 pub use functions::routines;
 pub use options::payloads;

@@ -1,4 +1,5 @@
 mod calls;
+mod deep;
 mod definitions;
 mod invariants;
 mod language;

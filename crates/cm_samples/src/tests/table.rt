@@ -98,6 +98,21 @@ pub fn runs(alloc: Global, model: &Model, run: Run) -> Result<bool, NoMemory> {
     Ok(right && ended && are_touched(&log, run.touched))
 }
 
+/// Whether the first call, on no arguments and the least state, replies with this after so many decisions, and
+/// touches no cell.
+pub fn replies_after(
+    alloc: Global,
+    model: &Model,
+    reply: Given,
+    decisions: usize,
+) -> Result<bool, NoMemory> {
+    let mut state = State::least(alloc, model)?;
+    let mut log = Log::new(alloc);
+    let call = row(0, &[], Some(reply), &[]);
+    let outcome = outcome_of(alloc, model, call, &mut state, &mut log)?;
+    Ok(is_outcome(&outcome, Some(reply)) && log.steps.len() == decisions && are_touched(&log, &[]))
+}
+
 fn ends_blocked(rows: &[CalledRow]) -> bool {
     match rows.last() {
         Some(row) => row.reply.is_none(),
