@@ -1,10 +1,10 @@
 -- The tables of the deepest functions are well typed.
-use Rattle.std.proofs.Common.{◌≡◌, ℕ, zero, suc, ◌+◌, ◌*◌, ◌<◌, ◌≤◌, leb, Bool, true, List, [], ◌∷◌, ◌++◌, length, slice_get, Option, Some, is_some, sum, sym, refl, ap, ◌∙◌, subst, le-leb, lt-ltb, zero-add, codes, arith}
+use Rattle.std.proofs.Common.{◌≡◌, ℕ, zero, suc, ◌+◌, ◌*◌, ◌<◌, ◌≤◌, leb, true, List, [], ◌∷◌, ◌++◌, Option, Some, is_some, sym, refl, ap, ◌∙◌, subst, le-leb, lt-ltb, zero-add, codes, arith}
 use Rattle.std.specs.Cmp.Derive.{both_true}
 use Rattle.cm_model.specs.Tables.{Tables}
 use Rattle.cm_model.specs.Types.{same_ty, same_step, is_type_in_use, or_else}
-use Rattle.cm_model.specs.Kinds.{Kind, Of, Scope, scope, given, if_so, is_of, bool_ty, kind_step, set_step, kind_of}
-use Rattle.cm_model.specs.Blocks.{Typing, block_typing, stmt_step, is_body, always_returns, ending_step, returns, is_in_order, Ending}
+use Rattle.cm_model.specs.Kinds.{Of, Scope, scope, given, if_so, is_of, bool_ty, kind_step, set_step, kind_of}
+use Rattle.cm_model.specs.Blocks.{block_typing, stmt_step, is_body, always_returns}
 use Rattle.cm_model.specs.Weights.{expr_weight, expr_weight_step, stmt_weight_step, body_weight, weights_from, fun_weights, greatest, shifts_of, shifts_step, stmt_shifts_step, body_shifts}
 use Rattle.cm_model.specs.WellTyped.{IsWellTyped, is_call, is_fun}
 use Rattle.cm_model.specs.declared.ty.Ty.TheOpen.{Ty-F}
