@@ -1,6 +1,7 @@
 -- What an expression gives: a number, or a value of a type. No kind where it is not well typed.
-use Rattle.std.specs.Prelude.{ℕ, ◌+◌, ◌==◌, ltb, leb, ℤ, pos, neg_ℤ, int_le, Bool, true, false, not, ◌&&◌, ◌||◌, if◌then◌else◌, List, [], ◌∷◌, ◌++◌, map, length, slice_get, Option, Some, None, option_map}
+use Rattle.std.specs.Prelude.{ℕ, ◌+◌, ◌==◌, ltb, leb, Bool, true, false, not, ◌&&◌, ◌||◌, if◌then◌else◌, List, [], ◌∷◌, ◌++◌, map, length, slice_get, Option, Some, None, option_map}
 use Rattle.std.specs.List.{list_all}
+use Rattle.cm_model.specs.Limits.{is_number}
 use Rattle.cm_model.specs.Tables.{Tables}
 use Rattle.cm_model.specs.Types.{is_type_in_use, same_ty}
 use Rattle.cm_model.specs.declared.ty.Ty.{Ty, out-Ty}
@@ -66,9 +67,6 @@ type_of k = given k type_in
 abbrev pub if_so : {X : Type 0} → Bool → X → Option X
 if_so b x = if b then Some x else None
 
-abbrev pub is_number : ℤ → Bool
-is_number n = int_le (neg_ℤ (pos 1000000)) n && int_le n (pos 1000000)
-
 -- values of these types, one for one
 abbrev pub are_of : List Part → List (Option Kind) → Bool
 are_of [] [] = true
@@ -133,6 +131,10 @@ are_comparable op.Eq left right = (is_integer left && is_integer right) || same_
 are_comparable op.Ne left right = (is_integer left && is_integer right) || same_type (type_of left) (type_of right)
 are_comparable _ left right = is_integer left && is_integer right
 
+-- an option with this payload: it is a type in use too
+abbrev pub option_kind : Tables → Ty → Option Kind
+option_kind t payload = if_so (is_type_in_use t (ty.Option payload)) (Of (ty.Option payload))
+
 abbrev pub kind_step : Scope → Expr-F (Option Kind) Set → Option Kind
 kind_step s (Expr-F.Num n) = if_so (is_number n) Number
 kind_step s (Expr-F.Tag e i) = given (slice_get s.tables.enums e) (λ d. if_so (ltb i (length d.variants)) (Of (ty.Enum e)))
@@ -141,8 +143,8 @@ kind_step s (Expr-F.Cell state key) = given (slice_get s.tables.states state) (�
 kind_step s (Expr-F.Fields e path) = given (type_of e) (λ t. if ltb 0 (length path) then option_map Of (type_at s.tables t path) else None)
 kind_step s (Expr-F.With e sets) = given (type_of e) (λ t. if_so (ltb 0 (length sets) && are_sets s.tables t sets) (Of t))
 kind_step s (Expr-F.Make r parts) = given (slice_get s.tables.records r) (λ d. if_so (are_of d.fields parts) (Of (ty.Rec r)))
-kind_step s (Expr-F.NoneOf t) = if_so (is_type_in_use s.tables t) (Of (ty.Option t))
-kind_step s (Expr-F.SomeOf e) = option_map (λ t. Of (ty.Option t)) (type_of e)
+kind_step s (Expr-F.NoneOf t) = option_kind s.tables t
+kind_step s (Expr-F.SomeOf e) = given (type_of e) (option_kind s.tables)
 kind_step s (Expr-F.Shift e by) = if_so (is_integer e && is_number by) Number
 kind_step s (Expr-F.Into i e) = if_so (ltb i (length s.tables.ints) && is_integer e) (Of (ty.Int i))
 kind_step s (Expr-F.Compare o left right) = if_so (are_comparable o left right) (Of bool_ty)

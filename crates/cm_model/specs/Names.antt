@@ -1,6 +1,7 @@
 -- The names of a model.
 use Rattle.std.specs.Prelude.{ℕ, leb, ◌==◌, Bool, true, false, not, ◌&&◌, ◌||◌, List, [], ◌∷◌, ◌++◌, map, length, codes, bytes_eq, flat_map, drop}
 use Rattle.std.specs.List.{list_all}
+use Rattle.cm_model.specs.Limits.{name_limit}
 use Rattle.cm_model.specs.Tables.{Tables}
 use Rattle.cm_model.specs.declared.ty.Part.{Part}
 use Rattle.cm_model.specs.declared.ty.EnumDecl.{EnumDecl}
@@ -29,7 +30,7 @@ begins_with_letter (n ∷ ns) = is_letter n
 
 -- at most 40 bytes, a letter first, and no reserved word
 abbrev pub is_name : List ℕ → Bool
-is_name name = (begins_with_letter name && list_all is_name_byte name) && (leb (length name) 40 && not (is_among name reserved_words))
+is_name name = (begins_with_letter name && list_all is_name_byte name) && (leb (length name) name_limit && not (is_among name reserved_words))
 
 abbrev pub are_distinct : List (List ℕ) → Bool
 are_distinct [] = true

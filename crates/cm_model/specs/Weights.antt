@@ -1,6 +1,6 @@
 -- How many nodes stand in an expression or statement, those of the called functions among them; and how
 -- many shifts stand one inside another.
-use Rattle.std.specs.Prelude.{ℕ, ◌+◌, max, leb, Bool, true, false, ◌&&◌, List, [], ◌∷◌, ◌++◌, map, sum, slice_get, Option, Some, None}
+use Rattle.std.specs.Prelude.{ℕ, ◌+◌, max, leb, ℤ, Bool, true, false, ◌&&◌, List, [], ◌∷◌, ◌++◌, map, sum, slice_get, Option, Some, None}
 use Rattle.std.specs.List.{list_all}
 use Rattle.cm_model.specs.Types.{or_else}
 use Rattle.cm_model.specs.declared.body.Call.{Call}
@@ -63,39 +63,48 @@ abbrev pub greatest : List ℕ → ℕ
 greatest [] = 0
 greatest (n ∷ ns) = max n (greatest ns)
 
-abbrev pub shifts_step : Expr-F ℕ ℕ → ℕ
-shifts_step (Expr-F.Num n) = 0
-shifts_step (Expr-F.Tag e i) = 0
-shifts_step (Expr-F.Local i) = 0
-shifts_step (Expr-F.Cell state key) = or_else 0 key
-shifts_step (Expr-F.Fields e path) = e
-shifts_step (Expr-F.With e sets) = max e (greatest sets)
-shifts_step (Expr-F.Make r parts) = greatest parts
-shifts_step (Expr-F.NoneOf t) = 0
-shifts_step (Expr-F.SomeOf e) = e
-shifts_step (Expr-F.Shift e by) = 1 + e
-shifts_step (Expr-F.Into i e) = e
-shifts_step (Expr-F.Compare o left right) = max left right
-shifts_step (Expr-F.All es) = greatest es
-shifts_step (Expr-F.Any es) = greatest es
-shifts_step (Expr-F.Not e) = e
-shifts_step (Expr-F.Apply f args) = greatest args
+-- the depth of an expression, from those of its numerals, its variants and what a shift adds; elsewhere it is the
+-- greatest depth of a part
+abbrev pub depth_step : (ℤ → ℕ) → (ℕ → ℕ) → (ℤ → ℕ → ℕ) → Expr-F ℕ ℕ → ℕ
+depth_step number variant shift (Expr-F.Num n) = number n
+depth_step number variant shift (Expr-F.Tag e i) = variant i
+depth_step number variant shift (Expr-F.Local i) = 0
+depth_step number variant shift (Expr-F.Cell state key) = or_else 0 key
+depth_step number variant shift (Expr-F.Fields e path) = e
+depth_step number variant shift (Expr-F.With e sets) = max e (greatest sets)
+depth_step number variant shift (Expr-F.Make r parts) = greatest parts
+depth_step number variant shift (Expr-F.NoneOf t) = 0
+depth_step number variant shift (Expr-F.SomeOf e) = e
+depth_step number variant shift (Expr-F.Shift e by) = shift by e
+depth_step number variant shift (Expr-F.Into i e) = e
+depth_step number variant shift (Expr-F.Compare o left right) = max left right
+depth_step number variant shift (Expr-F.All es) = greatest es
+depth_step number variant shift (Expr-F.Any es) = greatest es
+depth_step number variant shift (Expr-F.Not e) = e
+depth_step number variant shift (Expr-F.Apply f args) = greatest args
+
+-- the depth of a statement, from those of its expressions
+abbrev pub key_depth : (Expr → ℕ) → Option Expr → ℕ
+key_depth depth (Some k) = depth k
+key_depth depth None = 0
+
+abbrev pub stmt_depth_step : (Expr → ℕ) → Stmt-F ℕ → ℕ
+stmt_depth_step depth (Stmt-F.Let e) = depth e
+stmt_depth_step depth (Stmt-F.Set state key e) = max (key_depth depth key) (depth e)
+stmt_depth_step depth (Stmt-F.If c left right) = max (depth c) (max (greatest left) (greatest right))
+stmt_depth_step depth (Stmt-F.Case e left right) = max (depth e) (max (greatest left) (greatest right))
+stmt_depth_step depth (Stmt-F.Assume c) = depth c
+stmt_depth_step depth (Stmt-F.Return e) = depth e
 
 -- how many shifts stand one inside another
+abbrev pub shifts_step : Expr-F ℕ ℕ → ℕ
+shifts_step = depth_step (λ n. 0) (λ i. 0) (λ by depth. 1 + depth)
+
 abbrev pub shifts_of : Expr → ℕ
 shifts_of = fold-Expr ℕ ℕ shifts_step (λ x. x.value)
 
 abbrev pub stmt_shifts_step : Stmt-F ℕ → ℕ
-stmt_shifts_step (Stmt-F.Let e) = shifts_of e
-stmt_shifts_step (Stmt-F.Set state key e) = max (key_shifts key) (shifts_of e)
-  where
-    key_shifts : Option Expr → ℕ
-    key_shifts (Some k) = shifts_of k
-    key_shifts None = 0
-stmt_shifts_step (Stmt-F.If c left right) = max (shifts_of c) (max (greatest left) (greatest right))
-stmt_shifts_step (Stmt-F.Case e left right) = max (shifts_of e) (max (greatest left) (greatest right))
-stmt_shifts_step (Stmt-F.Assume c) = shifts_of c
-stmt_shifts_step (Stmt-F.Return e) = shifts_of e
+stmt_shifts_step = stmt_depth_step shifts_of
 
 abbrev pub body_shifts : List Stmt → ℕ
 body_shifts body = greatest (map (fold-Stmt ℕ stmt_shifts_step) body)

@@ -2,6 +2,7 @@
 #![tactic(auto)]
 
 mod body;
+pub mod limits;
 mod memory;
 mod model;
 mod name;
