@@ -4,6 +4,7 @@ use Rattle.std.specs.List.{list_all}
 use Rattle.std.proofs.lemmas.Bool.{ltb-true}
 use Rattle.cm_model.specs.Tables.{Tables}
 use Rattle.cm_model.specs.Types.{is_type_before, is_type_in_use}
+use Rattle.cm_model.specs.declared.ty.Ty.TheVariants as form
 use Rattle.cm_model.specs.WellTyped.{IsWellTyped, each_from, is_range, is_enum, is_record}
 use Rattle.cm_model.specs.Names.{are_distinct, is_name, part_names}
 use Rattle.cm_model.specs.declared.ty.IntDecl.{IntDecl}
@@ -53,6 +54,6 @@ module _ (t : Tables) (typed : IsWellTyped t) where
   pub field_before : (r i : ℕ) (d : RecDecl) (p : Part) → slice_get t.records r ≡ Some d → slice_get d.fields i ≡ Some p → IsTrue (is_type_before t r p.ty)
   field_before r i d p at field =
       let whole = each_at (is_record t) 0 t.records r r d typed.fields at (omega arith) in
-      let types = (both (list_all (λ q. is_type_before t r q.ty && is_type_in_use t q.ty) d.fields) (are_distinct (part_names d.fields) && list_all is_name (part_names d.fields))
+      let types = (both (list_all (λ q. is_type_before t r q.ty && is_type_in_use t q.ty) d.fields) ((are_distinct (part_names d.fields) && list_all is_name (part_names d.fields)) && is_type_in_use t (form.Rec r))
       (both (leb 1 (length d.fields)) _ whole).1).0 in
       (both (is_type_before t r p.ty) (is_type_in_use t p.ty) (all_at (λ q. is_type_before t r q.ty && is_type_in_use t q.ty) d.fields i p types field)).0

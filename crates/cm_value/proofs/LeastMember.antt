@@ -3,7 +3,7 @@ use Rattle.std.proofs.Common.{◌≡◌, ℕ, zero, suc, ◌<◌, ◌≤◌, ℤ
 use Rattle.std.proofs.lemmas.Bool.{ltb-true, lt-ltb, leb-true, le-leb}
 use Rattle.cm_model.specs.Tables.{Tables}
 use Rattle.cm_model.specs.Types.{IsType, is_type_before, ty_step}
-use Rattle.cm_model.specs.Kinds.{is_number}
+use Rattle.cm_model.specs.Limits.{is_number}
 use Rattle.cm_model.specs.WellTyped.{IsWellTyped, is_range, is_enum}
 use Rattle.cm_model.specs.declared.ty.Ty.{Ty, out-Ty}
 use Rattle.cm_model.specs.declared.ty.Ty.TheOpen.{Ty-F}

@@ -4,7 +4,7 @@ use Rattle.std.specs.List.{list_all}
 use Rattle.std.proofs.lemmas.Bool.{ltb-true, lt-ltb, leb-true}
 use Rattle.std.proofs.lemmas.Int.{ints}
 use Rattle.cm_model.specs.Tables.{Tables}
-use Rattle.cm_model.specs.Kinds.{is_number}
+use Rattle.cm_model.specs.Limits.{is_number}
 use Rattle.cm_model.specs.WellTyped.{IsWellTyped}
 use Rattle.cm_model.specs.declared.ty.Ty.{Ty, out-Ty}
 use Rattle.cm_model.specs.declared.ty.Ty.TheOpen.{Ty-F}

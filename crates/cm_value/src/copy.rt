@@ -1,6 +1,6 @@
 ghost use Rattle.std.specs.Prelude.{◌≡◌, IfOk};
 
-use crate::Value;
+use crate::{Vals, Value};
 use cm_model::{Boxed, List, NoMemory};
 use std::alloc::Global;
 
@@ -17,7 +17,7 @@ pub fn copy_value(alloc: Global, v: &Value) -> Result<Value, NoMemory>
         Value::Int(n) => Ok(Value::Int(*n)),
         Value::Tag(n) => Ok(Value::Tag(*n)),
         Value::Rec(parts) => {
-            let copies = copy_all(alloc, parts.as_slice())?;
+            let copies = copy_values(alloc, parts.as_slice())?;
             Ok(Value::Rec(copies))
         }
         Value::None => Ok(Value::None),
@@ -29,13 +29,17 @@ pub fn copy_value(alloc: Global, v: &Value) -> Result<Value, NoMemory>
     }
 }
 
+/// Equal values.
+///
+/// # Errors
+/// `NoMemory` where memory runs out.
 #[cycle(copy)]
-fn copy_all(alloc: Global, parts: &[Value]) -> Result<List<Value>, NoMemory>
-    ensures equal { IfOk result (λ copies. copies ≡ parts.now) }
+pub fn copy_values(alloc: Global, values: &[Value]) -> Result<Vals, NoMemory>
+    ensures equal { IfOk result (λ copies. copies ≡ values.now) }
 {
     let mut copies = List::new(alloc);
-    for part in parts {
-        copies.push(copy_value(alloc, part)?)?;
+    for value in values {
+        copies.push(copy_value(alloc, value)?)?;
     }
     Ok(copies)
 }

@@ -2,5 +2,5 @@
 use Rattle.std.proofs.Common.{◌≡◌, take}
 use Rattle.cm_value.proofs.copy.+copy.Given as goal
 
-abbrev pub invariant-copy_all-loop-part : goal.invariant-copy_all-loop-part
-invariant-copy_all-loop-part l = l.copies ≡ take l.part-index l.parts
+abbrev pub invariant-copy_values-loop-value : goal.invariant-copy_values-loop-value
+invariant-copy_values-loop-value l = l.copies ≡ take l.value-index l.values
