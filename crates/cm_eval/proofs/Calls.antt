@@ -12,8 +12,8 @@ use Rattle.cm_eval.specs.declared.rules.Rules.{Rules}
 use Rattle.cm_eval.specs.Script.{Replies, Blocks, Decides, Reads, Writes, given}
 use Rattle.cm_eval.specs.State.{Store, Touched, store}
 use Rattle.cm_eval.specs.Evaluation.{Doing, body_of, meanings, invariant_of}
-use Rattle.cm_eval.specs.Run.{Blocked, Replied, End, Ended, Stopped, logged, run, evaluation_of, asked, checked, is_true}
-use Rattle.cm_eval.specs.Invariant.{MeetsInvariant, invariant_holds, declared_invariant, replies_true}
+use Rattle.cm_eval.specs.Run.{Blocked, Replied, End, Ended, Stopped, logged, run, evaluation_of, asked, checked}
+use Rattle.cm_eval.specs.Invariant.{MeetsInvariant, invariant_holds, declared_invariant, replies}
 use Rattle.cm_eval.specs.Going.{Gives, Asks, stopped, ended_by, touched_of, funs_of}
 
 module _ (t : Tables) (r : Rules) (i : ℕ) (args locals : List Value) (s u : Store) (l after : Log)
@@ -34,12 +34,8 @@ abbrev is_ended : End → Bool
 is_ended (Ended v s t log) = true
 is_ended (Stopped t log) = false
 
-asked_says : (v : Value) (s : Store) (t : Touched) (d : Doing) (log : List ℕ) → is_ended (logged log (asked t d (Replied v s t))) ≡ replies_true d
-asked_says v s t (Replies w) log = by_answer (is_true w)
-  where
-    by_answer : (b : Bool) → is_ended (logged log (if b then Replied v s t else Blocked t)) ≡ b
-    by_answer true = refl
-    by_answer false = refl
+asked_says : (v : Value) (s : Store) (t : Touched) (d : Doing) (log : List ℕ) → is_ended (logged log (asked t d (Replied v s t))) ≡ replies d
+asked_says v s t (Replies w) log = refl
 asked_says v s t Blocks log = refl
 asked_says v s t (Decides d k) log = asked_says v s t (k d) (log ++ d ∷ [])
 asked_says v s t (Reads c k) log = refl

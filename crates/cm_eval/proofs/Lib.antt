@@ -1,5 +1,7 @@
 pub mod Folds
 pub mod Same
+pub mod Comparing
+pub mod Storing
 pub mod Places
 pub mod Limits
 pub mod Fields
@@ -17,4 +19,3 @@ pub mod Reaching
 pub mod Fitting
 pub mod RulesFit
 pub mod Examples
-pub mod Deepest

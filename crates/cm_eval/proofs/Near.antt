@@ -2,7 +2,7 @@
 use Rattle.std.proofs.Common.{◌≡◌, ℕ, ◌+◌, ◌≤◌, ℤ, pos, neg_ℤ, int_le, ◌+ℤ◌, ◌≤ℤ◌, max, List, [], ◌∷◌, map, Bool, true, false, Option, Some, None, IfSome, to_z, of_z, w64, refl, sym, ap, ◌∙◌, subst, arith, if◌then◌else◌}
 use Rattle.std.proofs.lemmas.Bool.{and_parts}
 use Rattle.std.proofs.lemmas.Int.{ints, to_z-of_z}
-use Rattle.cm_model.specs.Kinds.{is_number}
+use Rattle.cm_model.specs.Limits.{is_number}
 use Rattle.cm_model.specs.Weights.{greatest}
 use Rattle.cm_model.specs.declared.body.SetField.{SetField, fold-SetField, out-SetField, roll-out-SetField, fold-roll-SetField}
 use Rattle.cm_model.specs.declared.body.Expr.{Expr}

@@ -3,7 +3,8 @@ use Rattle.std.proofs.Common.{◌≡◌, ℕ, ◌+◌, ◌≤◌, ltb, leb, Bool
 use Rattle.std.specs.List.{list_all}
 use Rattle.std.proofs.lemmas.Bool.{and_parts, ltb-true, lt-ltb}
 use Rattle.cm_model.specs.Tables.{Tables}
-use Rattle.cm_model.specs.Kinds.{Kind, Number, Of, Scope, Set, given, if_so, is_bool, is_integer, is_number, is_of, type_of, are_of, is_named, field_of, are_sets, is_key, same_type, are_comparable, kind_step, set_step, kind_of}
+use Rattle.cm_model.specs.Limits.{is_number}
+use Rattle.cm_model.specs.Kinds.{Kind, Number, Of, Scope, Set, given, if_so, is_bool, is_integer, is_of, type_of, are_of, is_named, field_of, are_sets, is_key, same_type, are_comparable, kind_step, set_step, kind_of}
 use Rattle.cm_model.specs.Weights.{greatest, shifts_step, shifts_of}
 use Rattle.cm_model.specs.declared.ty.Ty.{Ty}
 use Rattle.cm_model.specs.declared.ty.Part.{Part}
@@ -34,10 +35,6 @@ came None k h = absurd (cc)
 pub typed_part : {Y : Type 0} (k : Option Kind) (f : Ty → Option Y) → is_some (given (type_of k) f) ≡ true → is_some k ≡ true
 typed_part (Some k) f h = refl
 typed_part None f h = absurd (cc)
-
-wrapped_part : {Y : Type 0} (k : Option Kind) (f : Ty → Y) → is_some (option_map f (type_of k)) ≡ true → is_some k ≡ true
-wrapped_part (Some k) f h = refl
-wrapped_part None f h = absurd (cc)
 
 pub bool_part : (k : Option Kind) → is_bool k ≡ true → is_some k ≡ true
 bool_part (Some k) h = refl
@@ -209,7 +206,7 @@ module _ (s : Scope) (small : HasSmallEnums s.tables) where
       let d = came (slice_get s.tables.records r) _ h in
       parts_within d.0.fields ks (passed (are_of d.0.fields (map (kind_of s) (bare ks))) _ d.2)
   node_within (Expr-F.NoneOf t) h = omega arith
-  node_within (Expr-F.SomeOf k) h = k.1 (wrapped_part (kind_of s k.0) _ h)
+  node_within (Expr-F.SomeOf k) h = k.1 (typed_part (kind_of s k.0) _ h)
   node_within (Expr-F.Shift k by) h =
       let tests = and_parts (is_integer (kind_of s k.0)) (is_number by) (passed _ _ h) in
       shift_reach (is_number by) (reach_of k.0) (shifts_of k.0) tests.1 (k.1 (integer_part (kind_of s k.0) tests.0))

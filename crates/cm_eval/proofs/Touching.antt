@@ -3,17 +3,14 @@ use Rattle.std.proofs.Common.{◌≡◌, ℕ, Bool, true, false, List, [], ◌�
 use Rattle.cm_model.specs.declared.ty.IntDecl.{IntDecl}
 use Rattle.cm_model.specs.declared.body.Expr.{Expr}
 use Rattle.cm_model.specs.declared.body.StateDecl.{StateDecl}
-use Rattle.cm_value.specs.declared.value.Value.{Value, out-Value}
-use Rattle.cm_value.specs.declared.value.Value.TheVariants as value
-use Rattle.cm_value.specs.declared.value.Value.TheViews.{out-roll-Value}
-use Rattle.cm_value.specs.declared.value.Value.TheOpen.{Value-F}
+use Rattle.cm_value.specs.declared.value.Value.{Value}
 use Rattle.cm_eval.specs.declared.log.CellName.{CellName}
 use Rattle.cm_eval.specs.declared.log.Log.{Log}
 use Rattle.cm_eval.specs.declared.rules.Rules.{Rules}
 use Rattle.cm_eval.specs.Script.{Replies, Blocks, Decides, Reads, Writes}
 use Rattle.cm_eval.specs.State.{Store, Touched, look_up, put, marked}
-use Rattle.cm_eval.specs.Evaluation.{Doing, bool, meanings, meaning_of, inspected, invariant_of}
-use Rattle.cm_eval.specs.Run.{Trace, Blocked, End, Ended, Stopped, logged, run, touched_at, touched_with, asked, is_true}
+use Rattle.cm_eval.specs.Evaluation.{Doing, bool, meanings, meaning_of, inspected, replies_if, invariant_of}
+use Rattle.cm_eval.specs.Run.{Trace, Blocked, End, Ended, Stopped, logged, run, touched_at, touched_with, asked}
 use Rattle.cm_eval.specs.Going.{Gives, Touches, Asks, goes_on, stopped, ended_by, touched_of, doing_of}
 
 module _ (r : Rules) (c : CellName) (d : StateDecl) (v : Value) (s : Store) (l after : Log) (o : Option ℕ)
@@ -49,7 +46,7 @@ module _ (r : Rules) (c : CellName) (d : StateDecl) (v : Value) (s : Store) (l a
 
 -- how a run ends that is asked of an invariant
 abbrev after_end : Touched → Trace → End → End
-after_end t more (Ended v s u log) = if is_true v then logged log more else Stopped t log
+after_end t more (Ended v s u log) = logged log more
 after_end t more (Stopped u log) = Stopped t log
 
 abbrev touched_in : End → Touched
@@ -58,11 +55,7 @@ touched_in (Stopped t log) = t
 
 asked_end : (ints : List IntDecl) (s : Store) (t : Touched) (d : Doing) (more : Trace) (log : List ℕ)
     → logged log (asked t d more) ≡ after_end t more (logged log (run ints [] s t d))
-asked_end ints s t (Replies v) more log = by_answer (is_true v)
-  where
-    by_answer : (b : Bool) → logged log (if b then more else Blocked t) ≡ (if b then logged log more else Stopped t log)
-    by_answer true = refl
-    by_answer false = refl
+asked_end ints s t (Replies v) more log = refl
 asked_end ints s t Blocks more log = refl
 asked_end ints s t (Decides d k) more log = asked_end ints s t (k d) more (log ++ d ∷ [])
 asked_end ints s t (Reads c k) more log = refl
@@ -75,13 +68,6 @@ cells_kept ints s t (Decides d k) log = cells_kept ints s t (k d) (log ++ d ∷ 
 cells_kept ints s t (Reads c k) log = refl
 cells_kept ints s t (Writes c v k) log = refl
 
-out_tag : (n : ℕ) → out-Value (value.Tag n) ≡ Value-F.Tag n
-out_tag n = ap out-Value (sym (value.rolls-Tag n)) ∙ out-roll-Value (Value-F.Tag n)
-
-true_bool : (b : Bool) → is_true (bool b) ≡ b
-true_bool true = rw (out_tag 1) refl
-true_bool false = rw (out_tag 0) refl
-
 no_meanings : (ints : List IntDecl) → meanings ints [] ≡ []
 unfolding meanings
 no_meanings ints = refl
@@ -90,30 +76,46 @@ no_meanings ints = refl
 module _ (r plain : Rules) (e : Expr) (v : Value) (locals : List Value) (s t : Store) (l after : Log) (o : Option Bool)
     (one : locals ≡ v ∷ []) (ints : plain.ints.now ≡ r.ints.now) (funs : plain.funs.now ≡ []) (states : plain.states.now ≡ [])
     (g : Gives plain (inspected (doing_of plain e) locals) o s l t after) where
-  ran : logged l.steps (run r.ints.now [] s (touched_of l) (invariant_of r.ints.now e v)) ≡ ended_by o (λ b. Ended (bool b) t (touched_of after) after.steps) (stopped after)
+  -- how it ends, by the bool
+  abbrev ended : Bool → End
+  ended true = Ended (bool true) t (touched_of after) after.steps
+  ended false = stopped after
+
+  ends : (is : List IntDecl) (ds : List StateDecl) (q : Option Bool)
+      → ended_by q (λ b. logged after.steps (run is ds t (touched_of after) (replies_if b))) (stopped after) ≡ ended_by q ended (stopped after)
+  ends is ds (Some true) = refl
+  ends is ds (Some false) = refl
+  ends is ds None = refl
+
+  ran : logged l.steps (run r.ints.now [] s (touched_of l) (invariant_of r.ints.now e v)) ≡ ended_by o ended (stopped after)
   ran =
-      sym (ap (λ i. logged l.steps (run i plain.states.now s (touched_of l) (inspected (meaning_of i (meanings i plain.funs.now) e) locals (λ b. Replies (bool b))))) ints
-      ∙ ap (λ f. logged l.steps (run r.ints.now plain.states.now s (touched_of l) (inspected (meaning_of r.ints.now (meanings r.ints.now f) e) locals (λ b. Replies (bool b))))) funs
-      ∙ ap (λ m. logged l.steps (run r.ints.now plain.states.now s (touched_of l) (inspected (meaning_of r.ints.now m e) locals (λ b. Replies (bool b))))) (no_meanings r.ints.now)
-      ∙ ap (λ x. logged l.steps (run r.ints.now x s (touched_of l) (inspected (meaning_of r.ints.now [] e) locals (λ b. Replies (bool b))))) states
-      ∙ ap (λ x. logged l.steps (run r.ints.now [] s (touched_of l) (inspected (meaning_of r.ints.now [] e) x (λ b. Replies (bool b))))) one)
-      ∙ g.on (λ b. Replies (bool b))
+      sym (ap (λ i. logged l.steps (run i plain.states.now s (touched_of l) (inspected (meaning_of i (meanings i plain.funs.now) e) locals replies_if))) ints
+      ∙ ap (λ f. logged l.steps (run r.ints.now plain.states.now s (touched_of l) (inspected (meaning_of r.ints.now (meanings r.ints.now f) e) locals replies_if))) funs
+      ∙ ap (λ m. logged l.steps (run r.ints.now plain.states.now s (touched_of l) (inspected (meaning_of r.ints.now m e) locals replies_if))) (no_meanings r.ints.now)
+      ∙ ap (λ x. logged l.steps (run r.ints.now x s (touched_of l) (inspected (meaning_of r.ints.now [] e) locals replies_if))) states
+      ∙ ap (λ x. logged l.steps (run r.ints.now [] s (touched_of l) (inspected (meaning_of r.ints.now [] e) x replies_if))) one)
+      ∙ g.on replies_if ∙ ends plain.ints.now plain.states.now o
 
   same_cells : touched_of after ≡ touched_of l
   same_cells = by_answer o ran
     where
-      by_answer : (q : Option Bool) → logged l.steps (run r.ints.now [] s (touched_of l) (invariant_of r.ints.now e v)) ≡ ended_by q (λ b. Ended (bool b) t (touched_of after) after.steps) (stopped after)
+      by_answer : (q : Option Bool) → logged l.steps (run r.ints.now [] s (touched_of l) (invariant_of r.ints.now e v)) ≡ ended_by q ended (stopped after)
           → touched_of after ≡ touched_of l
-      by_answer (Some b) h = sym (ap touched_in h) ∙ cells_kept r.ints.now s (touched_of l) (invariant_of r.ints.now e v) l.steps
+      by_answer (Some true) h = sym (ap touched_in h) ∙ cells_kept r.ints.now s (touched_of l) (invariant_of r.ints.now e v) l.steps
+      by_answer (Some false) h = sym (ap touched_in h) ∙ cells_kept r.ints.now s (touched_of l) (invariant_of r.ints.now e v) l.steps
       by_answer None h = sym (ap touched_in h) ∙ cells_kept r.ints.now s (touched_of l) (invariant_of r.ints.now e v) l.steps
+
+  chosen : (more : Trace) (b : Bool) → after_end (touched_of l) more (ended b) ≡ (if b then logged after.steps more else Stopped (touched_of l) after.steps)
+  chosen more true = refl
+  chosen more false = refl
 
   pub asks_some : (b : Bool) → o ≡ Some b → Asks r (Some e) v b l after
   asks_some b is = (
     same_cells,
     λ more.
         asked_end r.ints.now s (touched_of l) (invariant_of r.ints.now e v) more l.steps
-        ∙ ap (after_end (touched_of l) more) (ran ∙ ap (λ q. ended_by q (λ x. Ended (bool x) t (touched_of after) after.steps) (stopped after)) is)
-        ∙ ap (λ x. if x then logged after.steps more else Stopped (touched_of l) after.steps) (true_bool b)
+        ∙ ap (after_end (touched_of l) more) (ran ∙ ap (λ q. ended_by q ended (stopped after)) is)
+        ∙ chosen more b
         ∙ ap (λ u. if b then logged after.steps more else Stopped u after.steps) (sym same_cells),
   )
 
@@ -122,6 +124,6 @@ module _ (r plain : Rules) (e : Expr) (v : Value) (locals : List Value) (s t : S
     same_cells,
     λ more.
         asked_end r.ints.now s (touched_of l) (invariant_of r.ints.now e v) more l.steps
-        ∙ ap (after_end (touched_of l) more) (ran ∙ ap (λ q. ended_by q (λ x. Ended (bool x) t (touched_of after) after.steps) (stopped after)) is)
+        ∙ ap (after_end (touched_of l) more) (ran ∙ ap (λ q. ended_by q ended (stopped after)) is)
         ∙ ap (λ u. Stopped u after.steps) (sym same_cells),
   )

@@ -1,6 +1,7 @@
 -- The comparison of two values by their form, decision by decision. What is done at a decision, and where
 -- the values are of no one type, is the reader's.
 use Rattle.std.specs.Prelude.{ℕ, ◌==◌, ltb, ℤ, int_lt, Bool, true, false, List, [], ◌∷◌, Option, Some, None, if◌then◌else◌}
+use Rattle.cm_model.specs.Limits.{variant_limit}
 use Rattle.cm_value.specs.declared.value.Value.{Value, out-Value}
 use Rattle.cm_value.specs.declared.value.Value.TheOpen.{Value-F}
 use Rattle.cm_value.specs.declared.value.Value.TheFolds.{fold-Value}
@@ -19,9 +20,9 @@ int_in _ = None
 abbrev pub int_of : Value → Option ℤ
 int_of v = int_in (out-Value v)
 
--- no enum has more than 64 variants
+-- a number that a variant may have
 abbrev pub variant : ℕ → Option ℕ
-variant n = if ltb n 64 then Some n else None
+variant n = if ltb n variant_limit then Some n else None
 
 abbrev pub tag_in : Value-F Value → Option ℕ
 tag_in (Value-F.Tag n) = variant n

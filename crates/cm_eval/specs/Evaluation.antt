@@ -31,14 +31,10 @@ abbrev pub number_of : Operand → Option ℤ
 number_of (operand.Number n) = Some n
 number_of (operand.Plain v) = int_of v
 
-abbrev pub flag_in : Option ℕ → Option Bool
-flag_in (Some n) = if n == 0 then Some false else if n == 1 then Some true else None
-flag_in None = None
-
--- a bool by the number of its variant: 0 false, 1 true
-abbrev pub flag_of : Operand → Option Bool
-flag_of (operand.Plain v) = flag_in (tag_of v)
-flag_of (operand.Number n) = None
+-- the variant that an operand is, by its number
+abbrev pub choice_of : Operand → Option ℕ
+choice_of (operand.Plain v) = tag_of v
+choice_of (operand.Number n) = None
 
 abbrev pub variant_of : Bool → ℕ
 variant_of b = if b then 1 else 0
@@ -50,7 +46,7 @@ abbrev pub flag : Bool → Operand
 flag b = operand.Plain (bool b)
 
 abbrev pub inspects : Operand → (Bool → Doing) → Doing
-inspects o k = given (flag_of o) (λ b. Decides (variant_of b) (λ d. k (d == 1)))
+inspects o k = given (choice_of o) (λ n. Decides n (λ d. k (d == 1)))
 
 -- 0 below, 1 in range, 2 above
 abbrev pub ranged : IntDecl → ℤ → ℕ
@@ -297,6 +293,10 @@ meanings ints = meanings_from ints []
 abbrev pub call_of : Tables → ℕ → List Value → Doing
 call_of t i args = given (slice_get t.calls i) (λ d. body_of t.ints (meanings t.ints t.funs) d.body args Replies)
 
--- what a cell's invariant does with the cell's value: it replies with a bool, which was inspected
+-- one and the same reply where the bool is true
+abbrev pub replies_if : Bool → Doing
+replies_if s = if s then Replies (bool true) else Blocks
+
+-- what a cell's invariant does with the cell's value: its bool is inspected, and it replies where that is true
 abbrev pub invariant_of : List IntDecl → Expr → Value → Doing
-invariant_of ints e v = inspected (meaning_of ints [] e) (v ∷ []) (λ s. Replies (bool s))
+invariant_of ints e v = inspected (meaning_of ints [] e) (v ∷ []) replies_if

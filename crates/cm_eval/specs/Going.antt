@@ -14,6 +14,7 @@ use Rattle.cm_eval.specs.declared.flow.Flow.{Flow}
 use Rattle.cm_eval.specs.declared.flow.Flow.TheVariants as flow
 use Rattle.cm_eval.specs.Evaluation.{Doing, Meaning, SetMeaning, Turn, Called, meaning_of, key_meaning, meanings, turn_of, block_of}
 use Rattle.std.specs.List.{list_all}
+use Rattle.cm_model.specs.Limits.{shift_limit}
 use Rattle.cm_model.specs.WellTyped.{is_range}
 use Rattle.cm_model.specs.Weights.{greatest}
 use Rattle.cm_model.specs.declared.body.SetField.{SetField}
@@ -99,7 +100,7 @@ IsLimitedFlow flow.Blocked = IsTrue true
 
 -- a function's bodies and the states' invariants have no large literals and few shifts
 abbrev pub AreFitting : Rules → Type 0
-AreFitting r = (funs_reach r.funs.now ≤ 65) × (states_reach r.states.now ≤ 65) × IsTrue (list_all is_range r.ints.now)
+AreFitting r = (funs_reach r.funs.now ≤ shift_limit) × (states_reach r.states.now ≤ shift_limit) × IsTrue (list_all is_range r.ints.now)
 
 -- the fields that are set, and what is done for their new values
 abbrev pub sets_in : Rules → List SetField → List SetMeaning

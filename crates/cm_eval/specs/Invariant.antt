@@ -7,19 +7,18 @@ use Rattle.cm_model.specs.declared.body.StateDecl.{StateDecl}
 use Rattle.cm_value.specs.declared.value.Value.{Value}
 use Rattle.cm_eval.specs.Script.{Replies, Blocks, Decides, Reads, Writes}
 use Rattle.cm_eval.specs.Evaluation.{Doing, invariant_of}
-use Rattle.cm_eval.specs.Run.{is_true}
 
--- whether a script that touches no cell replies with true
-abbrev pub replies_true : Doing → Bool
-replies_true (Replies v) = is_true v
-replies_true Blocks = false
-replies_true (Decides d k) = replies_true (k d)
-replies_true (Reads c k) = false
-replies_true (Writes c v k) = false
+-- whether a script that touches no cell comes to a reply
+abbrev pub replies : Doing → Bool
+replies (Replies v) = true
+replies Blocks = false
+replies (Decides d k) = replies (k d)
+replies (Reads c k) = false
+replies (Writes c v k) = false
 
 abbrev pub invariant_holds : List IntDecl → Option Expr → Value → Bool
 invariant_holds ints None v = true
-invariant_holds ints (Some e) v = replies_true (invariant_of ints e v)
+invariant_holds ints (Some e) v = replies (invariant_of ints e v)
 
 abbrev pub declared_invariant : Option StateDecl → Option Expr
 declared_invariant (Some d) = d.inv

@@ -1,10 +1,9 @@
--- Bounds on numbers: those in the values of a state and of locals are within a million of 0, and at most 65
--- shifts by as much stand one inside another, so that no sum is large.
+-- Bounds on numbers: those in the values of a state and of locals are within the limit on numbers, and only as
+-- many shifts by as much stand one inside another as the limit on shifts allows, so that no sum is large.
 use Rattle.std.specs.Prelude.{ℕ, ◌+◌, ◌*◌, max, ltb, ℤ, pos, neg_ℤ, ◌≤ℤ◌, Bool, ◌&&◌, if◌then◌else◌, List, map, Option, Some, None, IsTrue}
 use Rattle.std.specs.List.{list_all}
-use Rattle.cm_model.specs.Kinds.{is_number}
-use Rattle.cm_model.specs.Types.{or_else}
-use Rattle.cm_model.specs.Weights.{greatest}
+use Rattle.cm_model.specs.Limits.{variant_limit, shift_limit, number_limit, is_number}
+use Rattle.cm_model.specs.Weights.{greatest, depth_step, key_depth, stmt_depth_step}
 use Rattle.cm_model.specs.declared.body.Call.{Call}
 use Rattle.cm_model.specs.declared.body.StateDecl.{StateDecl}
 use Rattle.cm_model.specs.declared.body.Expr.{Expr}
@@ -27,41 +26,22 @@ is_limited_store s = are_limited s.defaults && list_all (λ e. is_limited e.valu
 
 -- more than any expression of a model has
 abbrev pub too_far : ℕ
-too_far = 66
+too_far = shift_limit + 1
 
 abbrev pub reach_step : Expr-F ℕ ℕ → ℕ
-reach_step (Expr-F.Num n) = if is_number n then 0 else too_far
-reach_step (Expr-F.Tag e i) = if ltb i 64 then 0 else too_far
-reach_step (Expr-F.Local i) = 0
-reach_step (Expr-F.Cell s key) = or_else 0 key
-reach_step (Expr-F.Fields e path) = e
-reach_step (Expr-F.With e sets) = max e (greatest sets)
-reach_step (Expr-F.Make r parts) = greatest parts
-reach_step (Expr-F.NoneOf t) = 0
-reach_step (Expr-F.SomeOf e) = e
-reach_step (Expr-F.Shift e by) = if is_number by then 1 + e else too_far
-reach_step (Expr-F.Into i e) = e
-reach_step (Expr-F.Compare o left right) = max left right
-reach_step (Expr-F.All es) = greatest es
-reach_step (Expr-F.Any es) = greatest es
-reach_step (Expr-F.Not e) = e
-reach_step (Expr-F.Apply f args) = greatest args
+reach_step =
+    depth_step (λ n. if is_number n then 0 else too_far) (λ i. if ltb i variant_limit then 0 else too_far)
+    (λ by depth. if is_number by then 1 + depth else too_far)
 
 -- how many shifts stand one inside another, and too far where a literal is too large
 abbrev pub reach_of : Expr → ℕ
 reach_of = fold-Expr ℕ ℕ reach_step (λ x. x.value)
 
 abbrev pub key_reach : Option Expr → ℕ
-key_reach (Some e) = reach_of e
-key_reach None = 0
+key_reach = key_depth reach_of
 
 abbrev pub stmt_reach_step : Stmt-F ℕ → ℕ
-stmt_reach_step (Stmt-F.Let e) = reach_of e
-stmt_reach_step (Stmt-F.Set s key e) = max (key_reach key) (reach_of e)
-stmt_reach_step (Stmt-F.If c left right) = max (reach_of c) (max (greatest left) (greatest right))
-stmt_reach_step (Stmt-F.Case e left right) = max (reach_of e) (max (greatest left) (greatest right))
-stmt_reach_step (Stmt-F.Assume c) = reach_of c
-stmt_reach_step (Stmt-F.Return e) = reach_of e
+stmt_reach_step = stmt_depth_step reach_of
 
 abbrev pub stmt_reach : Stmt → ℕ
 stmt_reach = fold-Stmt ℕ stmt_reach_step
@@ -81,7 +61,7 @@ states_reach states = greatest (map (λ d. key_reach d.inv) states)
 
 -- a number that so many shifts give
 abbrev pub IsNear : ℕ → ℤ → Type 0
-IsNear d n = (neg_ℤ (pos (1000000 * (d + 1))) ≤ℤ n) × (n ≤ℤ pos (1000000 * (d + 1)))
+IsNear d n = (neg_ℤ (pos (number_limit * (d + 1))) ≤ℤ n) × (n ≤ℤ pos (number_limit * (d + 1)))
 
 -- what comes out of an expression of this reach
 abbrev pub IsFitting : ℕ → Operand → Type 0

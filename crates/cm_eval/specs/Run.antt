@@ -7,7 +7,7 @@ use Rattle.cm_model.specs.declared.body.StateDecl.{StateDecl}
 use Rattle.cm_value.specs.declared.value.Value.{Value}
 use Rattle.cm_eval.specs.declared.log.CellName.{CellName}
 use Rattle.cm_eval.specs.Script.{Replies, Blocks, Decides, Reads, Writes}
-use Rattle.cm_eval.specs.Comparison.{tag_of, comparison}
+use Rattle.cm_eval.specs.Comparison.{comparison}
 use Rattle.cm_eval.specs.State.{Store, Touched, look_up, put, with_cell, marked}
 use Rattle.cm_eval.specs.Evaluation.{Doing, call_of, invariant_of}
 
@@ -17,16 +17,9 @@ pub data Trace : Type 0 where
   Blocked : Touched → Trace
   Logs : Touched → ℕ → Trace → Trace
 
-abbrev pub is_true : Value → Bool
-is_true v = flag_is_true (tag_of v)
-  where
-    flag_is_true : Option ℕ → Bool
-    flag_is_true (Some n) = n == 1
-    flag_is_true None = false
-
--- an invariant's script, which touches no cell: it goes on where the reply is true, else it is blocked
+-- an invariant's script, which touches no cell: where it replies the run goes on, and else it is blocked
 abbrev pub asked : Touched → Doing → Trace → Trace
-asked t (Replies v) more = if is_true v then more else Blocked t
+asked t (Replies v) more = more
 asked t Blocks more = Blocked t
 asked t (Decides d k) more = Logs t d (asked t (k d) more)
 asked t (Reads c k) more = Blocked t

@@ -6,13 +6,13 @@ ghost use Rattle.cm_eval.specs.Limits.{are_limited};
 ghost use Rattle.cm_eval.specs.Going.{end_of, touched_of, IsLimitedOutcome};
 
 use crate::cells::ask;
-use crate::log::{Log, copy_values};
+use crate::log::Log;
 use crate::outcome::{Args, Outcome};
 use crate::rules::Rules;
 use crate::state::State;
 use crate::stmt::run_body;
 use cm_model::{Model, NoMemory};
-use cm_value::Value;
+use cm_value::{Value, copy_values};
 use std::alloc::Global;
 
 /// Runs a call on its arguments and a state, and goes on with the log. A run is blocked where an `assume` is

@@ -1,4 +1,5 @@
 ghost use Rattle.std.specs.Prelude.{◌≡◌, ◌≤◌, ◌<◌, ℕ, Bool, IfOk, IfSome, IsTrue, List, length, slice_set, true};
+ghost use Rattle.cm_model.specs.Limits.{shift_limit};
 ghost use Rattle.cm_value.specs.declared.value.Value.{Value};
 ghost use Rattle.cm_value.specs.Limits.{is_limited};
 ghost use Rattle.cm_eval.specs.Script.{Reads, Writes};
@@ -101,7 +102,7 @@ fn touch(
     log: &mut Log,
 ) -> Result<Option<usize>, NoMemory>
     requires rules { AreFitting rules.now }
-    requires reach { key_reach declared.now.inv ≤ 65 }
+    requires reach { key_reach declared.now.inv ≤ shift_limit }
     requires limited { IsTrue (is_limited value.now) }
     ensures touches { IfOk result (λ r. Touches rules.now declared.now value.now cell r log.old log.new) }
 {
@@ -161,7 +162,7 @@ fn add(
     log: &mut Log,
 ) -> Result<Option<usize>, NoMemory>
     requires rules { AreFitting rules.now }
-    requires reach { key_reach declared.now.inv ≤ 65 }
+    requires reach { key_reach declared.now.inv ≤ shift_limit }
     requires limited { IsTrue (is_limited value.now) }
     ensures adds { IfOk result (λ r. Adds rules.now declared.now value.now cell r log.old log.new) }
 {
@@ -183,7 +184,7 @@ pub fn ask(
     log: &mut Log,
 ) -> Result<bool, NoMemory>
     requires rules { AreFitting rules.now }
-    requires reach { key_reach invariant.now ≤ 65 }
+    requires reach { key_reach invariant.now ≤ shift_limit }
     requires limited { IsTrue (is_limited value.now) }
     ensures asks { IfOk result (λ b. Asks rules.now invariant.now value.now b log.old log.new) }
 {

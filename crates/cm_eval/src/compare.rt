@@ -1,11 +1,11 @@
-ghost use Rattle.std.specs.Prelude.{◌≡◌, IfOk, map, List, ℕ, Bool};
+ghost use Rattle.std.specs.Prelude.{◌≡◌, ◌==◌, ◌++◌, ◌∷◌, [], IfOk, OnOk, map, List, ℕ, Bool};
 ghost use Rattle.cm_value.specs.declared.value.Value.{Value};
 ghost use Rattle.cm_eval.specs.Comparison.{distinguished, ordered, fields_compared, comparison};
 ghost use Rattle.cm_eval.specs.State.{Touched};
 ghost use Rattle.cm_eval.specs.Run.{Trace, Blocked, Logs, Stopped, logged};
 ghost use Rattle.cm_eval.specs.Going.{Compares, ComparesAll, ComparesTags, ended_by};
 
-use cm_model::{List, NoMemory};
+use cm_model::{List, NoMemory, limits};
 use cm_value::Value;
 
 /// Compares two values by their type and logs each decision. `None` where they are of no one type.
@@ -32,23 +32,19 @@ pub fn compare(left: &Value, right: &Value, steps: &mut List<u8>) -> Result<Opti
             Ok(r)
         }
         (Value::None, Value::None) => {
-            steps.push(0)?;
-            steps.push(0)?;
-            Ok(Some(true))
+            let same = log_both(0, 0, steps)?;
+            Ok(Some(same))
         }
         (Value::None, Value::Some(_)) => {
-            steps.push(0)?;
-            steps.push(1)?;
-            Ok(Some(false))
+            let same = log_both(0, 1, steps)?;
+            Ok(Some(same))
         }
         (Value::Some(_), Value::None) => {
-            steps.push(1)?;
-            steps.push(0)?;
-            Ok(Some(false))
+            let same = log_both(1, 0, steps)?;
+            Ok(Some(same))
         }
         (Value::Some(m), Value::Some(n)) => {
-            steps.push(1)?;
-            steps.push(1)?;
+            log_both(1, 1, steps)?;
             let r = compare(m.get(), n.get(), steps)?;
             Ok(r)
         }
@@ -85,12 +81,25 @@ fn compare_all(
 fn compare_tags(left: u16, right: u16, steps: &mut List<u8>) -> Result<Option<bool>, NoMemory>
     ensures compares { IfOk result (λ r. ComparesTags left right r steps.old steps.new) }
 {
-    if left >= 64 || right >= 64 {
+    if left >= limits::VARIANTS || right >= limits::VARIANTS {
         return Ok(None);
     }
-    steps.push(left as u8)?;
-    steps.push(right as u8)?;
-    Ok(Some(left == right))
+    let same = log_both(left as u8, right as u8, steps)?;
+    Ok(Some(same))
+}
+
+/// Logs the inspection of two variants or options, the left one and then the right one, by their numbers. Says
+/// whether they are equal.
+///
+/// # Errors
+/// `NoMemory` where memory runs out.
+pub fn log_both(left: u8, right: u8, steps: &mut List<u8>) -> Result<bool, NoMemory>
+    ensures equal { IfOk result (λ same. same ≡ (left == right)) }
+    ensures logged { OnOk result (steps.new ≡ (steps.old ++ left ∷ []) ++ right ∷ []) }
+{
+    steps.push(left)?;
+    steps.push(right)?;
+    Ok(left == right)
 }
 
 /// 0 less, 1 equal, 2 greater.

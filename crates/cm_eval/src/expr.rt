@@ -1,5 +1,5 @@
 ghost use Rattle.std.specs.Prelude.{◌≡◌, ◌≤◌, ◌+◌, ℕ, ℤ, Bool, IfOk, IfSome, IsTrue, List, [], map, max, option_copied, option_map, slice_get, Some};
-ghost use Rattle.cm_model.specs.Kinds.{is_number};
+ghost use Rattle.cm_model.specs.Limits.{is_number, shift_limit};
 ghost use Rattle.cm_model.specs.Weights.{greatest};
 ghost use Rattle.cm_model.specs.declared.body.Expr.{Expr};
 ghost use Rattle.cm_value.specs.declared.value.Value.{Value};
@@ -31,7 +31,7 @@ pub fn evaluate(
     log: &mut Log,
 ) -> Result<Option<Operand>, NoMemory>
     requires rules { AreFitting rules.now }
-    requires reach { reach_of e.now ≤ 65 }
+    requires reach { reach_of e.now ≤ shift_limit }
     requires locals { IsTrue (are_limited locals.now) }
     ensures gives { IfOk result (λ r. Gives rules.now (doing_of rules.now e.now locals.now) r state.old log.old state.new log.new) }
     ensures fits { IfOk result (λ r. IfSome r (IsFitting (reach_of e.now))) }
@@ -119,7 +119,7 @@ pub fn evaluate_value(
     log: &mut Log,
 ) -> Result<Option<Value>, NoMemory>
     requires rules { AreFitting rules.now }
-    requires reach { reach_of e.now ≤ 65 }
+    requires reach { reach_of e.now ≤ shift_limit }
     requires locals { IsTrue (are_limited locals.now) }
     ensures gives { IfOk result (λ r. Gives rules.now (valued (doing_of rules.now e.now) locals.now) r state.old log.old state.new log.new) }
     ensures limited { IfOk result (λ r. IfSome r (λ v. IsTrue (is_limited v))) }
@@ -141,7 +141,7 @@ fn evaluate_number(
     log: &mut Log,
 ) -> Result<Option<i64>, NoMemory>
     requires rules { AreFitting rules.now }
-    requires reach { reach_of e.now ≤ 65 }
+    requires reach { reach_of e.now ≤ shift_limit }
     requires locals { IsTrue (are_limited locals.now) }
     ensures gives { IfOk result (λ r. Gives rules.now (numbered (doing_of rules.now e.now) locals.now) r state.old log.old state.new log.new) }
     ensures near { IfOk result (λ r. IfSome r (IsNear (reach_of e.now))) }
@@ -162,7 +162,7 @@ pub fn evaluate_flag(
     log: &mut Log,
 ) -> Result<Option<bool>, NoMemory>
     requires rules { AreFitting rules.now }
-    requires reach { reach_of e.now ≤ 65 }
+    requires reach { reach_of e.now ≤ shift_limit }
     requires locals { IsTrue (are_limited locals.now) }
     ensures gives { IfOk result (λ r. Gives rules.now (inspected (doing_of rules.now e.now) locals.now) r state.old log.old state.new log.new) }
 {
@@ -186,7 +186,7 @@ pub fn evaluate_cell(
     log: &mut Log,
 ) -> Result<Option<CellName>, NoMemory>
     requires rules { AreFitting rules.now }
-    requires reach { reach_of e.now ≤ 65 }
+    requires reach { reach_of e.now ≤ shift_limit }
     requires locals { IsTrue (are_limited locals.now) }
     ensures gives { IfOk result (λ r. Gives rules.now (cell_of s (Some (doing_of rules.now e.now)) locals.now) r state.old log.old state.new log.new) }
 {
@@ -234,7 +234,7 @@ fn evaluate_read(
     log: &mut Log,
 ) -> Result<Option<Operand>, NoMemory>
     requires rules { AreFitting rules.now }
-    requires reach { reach_of e.now ≤ 65 }
+    requires reach { reach_of e.now ≤ shift_limit }
     requires locals { IsTrue (are_limited locals.now) }
     ensures gives { IfOk result (λ r. Gives rules.now (read_of s (Some (doing_of rules.now e.now)) locals.now) r state.old log.old state.new log.new) }
     ensures fits { IfOk result (λ r. IfSome r (IsFitting (reach_of e.now))) }
@@ -260,7 +260,7 @@ fn evaluate_fields(
     log: &mut Log,
 ) -> Result<Option<Operand>, NoMemory>
     requires rules { AreFitting rules.now }
-    requires reach { reach_of e.now ≤ 65 }
+    requires reach { reach_of e.now ≤ shift_limit }
     requires locals { IsTrue (are_limited locals.now) }
     ensures gives { IfOk result (λ r. Gives rules.now (fields_of (doing_of rules.now e.now) path.now locals.now) r state.old log.old state.new log.new) }
     ensures fits { IfOk result (λ r. IfSome r (IsFitting (reach_of e.now))) }
@@ -286,8 +286,8 @@ fn evaluate_with(
     log: &mut Log,
 ) -> Result<Option<Operand>, NoMemory>
     requires rules { AreFitting rules.now }
-    requires reach { reach_of e.now ≤ 65 }
-    requires sets { sets_reach sets.now ≤ 65 }
+    requires reach { reach_of e.now ≤ shift_limit }
+    requires sets { sets_reach sets.now ≤ shift_limit }
     requires locals { IsTrue (are_limited locals.now) }
     ensures gives { IfOk result (λ r. Gives rules.now (with_of (doing_of rules.now e.now) (sets_in rules.now sets.now) locals.now) r state.old log.old state.new log.new) }
     ensures fits { IfOk result (λ r. IfSome r (IsFitting (sets_reach sets.now))) }
@@ -310,7 +310,7 @@ fn evaluate_replaced(
 ) -> Result<Option<Operand>, NoMemory>
     requires rules { AreFitting rules.now }
     requires of { IsTrue (is_limited of) }
-    requires reach { sets_reach sets.now ≤ 65 }
+    requires reach { sets_reach sets.now ≤ shift_limit }
     requires locals { IsTrue (are_limited locals.now) }
     ensures gives { IfOk result (λ r. Gives rules.now (replaced_of of (sets_in rules.now sets.now) locals.now) r state.old log.old state.new log.new) }
     ensures fits { IfOk result (λ r. IfSome r (IsFitting (sets_reach sets.now))) }
@@ -333,7 +333,7 @@ fn evaluate_sets(
 ) -> Result<Option<Value>, NoMemory>
     requires rules { AreFitting rules.now }
     requires of { IsTrue (is_limited of) }
-    requires reach { sets_reach sets.now ≤ 65 }
+    requires reach { sets_reach sets.now ≤ shift_limit }
     requires locals { IsTrue (are_limited locals.now) }
     ensures gives { IfOk result (λ r. Gives rules.now (sets_of of (sets_in rules.now sets.now) locals.now) r state.old log.old state.new log.new) }
     ensures limited { IfOk result (λ r. IfSome r (λ v. IsTrue (is_limited v))) }
@@ -361,7 +361,7 @@ fn evaluate_values(
     log: &mut Log,
 ) -> Result<Option<Vals>, NoMemory>
     requires rules { AreFitting rules.now }
-    requires reach { exprs_reach es.now ≤ 65 }
+    requires reach { exprs_reach es.now ≤ shift_limit }
     requires locals { IsTrue (are_limited locals.now) }
     ensures gives { IfOk result (λ r. Gives rules.now (values_of [] (map (doing_of rules.now) es.now) locals.now) r state.old log.old state.new log.new) }
     ensures limited { IfOk result (λ r. IfSome r (λ vs. IsTrue (are_limited vs))) }
@@ -387,7 +387,7 @@ fn evaluate_make(
     log: &mut Log,
 ) -> Result<Option<Operand>, NoMemory>
     requires rules { AreFitting rules.now }
-    requires reach { exprs_reach es.now ≤ 65 }
+    requires reach { exprs_reach es.now ≤ shift_limit }
     requires locals { IsTrue (are_limited locals.now) }
     ensures gives { IfOk result (λ r. Gives rules.now (make_of (map (doing_of rules.now) es.now) locals.now) r state.old log.old state.new log.new) }
     ensures fits { IfOk result (λ r. IfSome r (IsFitting (exprs_reach es.now))) }
@@ -409,7 +409,7 @@ fn evaluate_some(
     log: &mut Log,
 ) -> Result<Option<Operand>, NoMemory>
     requires rules { AreFitting rules.now }
-    requires reach { reach_of e.now ≤ 65 }
+    requires reach { reach_of e.now ≤ shift_limit }
     requires locals { IsTrue (are_limited locals.now) }
     ensures gives { IfOk result (λ r. Gives rules.now (some_of (doing_of rules.now e.now) locals.now) r state.old log.old state.new log.new) }
     ensures fits { IfOk result (λ r. IfSome r (IsFitting (reach_of e.now))) }
@@ -435,7 +435,7 @@ fn evaluate_shift(
     log: &mut Log,
 ) -> Result<Option<Operand>, NoMemory>
     requires rules { AreFitting rules.now }
-    requires reach { 1 + reach_of e.now ≤ 65 }
+    requires reach { 1 + reach_of e.now ≤ shift_limit }
     requires by { IsTrue (is_number by) }
     requires locals { IsTrue (are_limited locals.now) }
     ensures gives { IfOk result (λ r. Gives rules.now (shift_of (doing_of rules.now e.now) by locals.now) r state.old log.old state.new log.new) }
@@ -459,7 +459,7 @@ fn evaluate_into(
     log: &mut Log,
 ) -> Result<Option<Operand>, NoMemory>
     requires rules { AreFitting rules.now }
-    requires reach { reach_of e.now ≤ 65 }
+    requires reach { reach_of e.now ≤ shift_limit }
     requires locals { IsTrue (are_limited locals.now) }
     ensures gives { IfOk result (λ r. Gives rules.now (into_of (slice_get rules.now.ints.now int) (doing_of rules.now e.now) locals.now) r state.old log.old state.new log.new) }
     ensures fits { IfOk result (λ r. IfSome r (IsFitting (reach_of e.now))) }
@@ -486,7 +486,7 @@ fn evaluate_compare(
     log: &mut Log,
 ) -> Result<Option<Operand>, NoMemory>
     requires rules { AreFitting rules.now }
-    requires reach { max (reach_of left.now) (reach_of right.now) ≤ 65 }
+    requires reach { max (reach_of left.now) (reach_of right.now) ≤ shift_limit }
     requires locals { IsTrue (are_limited locals.now) }
     ensures gives { IfOk result (λ r. Gives rules.now (compare_of op (doing_of rules.now left.now) (doing_of rules.now right.now) locals.now) r state.old log.old state.new log.new) }
     ensures fits { IfOk result (λ r. IfSome r (IsFitting (max (reach_of left.now) (reach_of right.now)))) }
@@ -511,7 +511,7 @@ fn evaluate_all(
     log: &mut Log,
 ) -> Result<Option<bool>, NoMemory>
     requires rules { AreFitting rules.now }
-    requires reach { exprs_reach es.now ≤ 65 }
+    requires reach { exprs_reach es.now ≤ shift_limit }
     requires locals { IsTrue (are_limited locals.now) }
     ensures gives { IfOk result (λ r. Gives rules.now (all_of (map (doing_of rules.now) es.now) locals.now) r state.old log.old state.new log.new) }
 {
@@ -536,7 +536,7 @@ fn evaluate_any(
     log: &mut Log,
 ) -> Result<Option<bool>, NoMemory>
     requires rules { AreFitting rules.now }
-    requires reach { exprs_reach es.now ≤ 65 }
+    requires reach { exprs_reach es.now ≤ shift_limit }
     requires locals { IsTrue (are_limited locals.now) }
     ensures gives { IfOk result (λ r. Gives rules.now (any_of (map (doing_of rules.now) es.now) locals.now) r state.old log.old state.new log.new) }
 {
@@ -561,7 +561,7 @@ fn evaluate_not(
     log: &mut Log,
 ) -> Result<Option<Operand>, NoMemory>
     requires rules { AreFitting rules.now }
-    requires reach { reach_of e.now ≤ 65 }
+    requires reach { reach_of e.now ≤ shift_limit }
     requires locals { IsTrue (are_limited locals.now) }
     ensures gives { IfOk result (λ r. Gives rules.now (not_of (doing_of rules.now e.now) locals.now) r state.old log.old state.new log.new) }
     ensures fits { IfOk result (λ r. IfSome r (IsFitting (reach_of e.now))) }
@@ -584,7 +584,7 @@ fn evaluate_apply(
     log: &mut Log,
 ) -> Result<Option<Operand>, NoMemory>
     requires rules { AreFitting rules.now }
-    requires reach { exprs_reach es.now ≤ 65 }
+    requires reach { exprs_reach es.now ≤ shift_limit }
     requires locals { IsTrue (are_limited locals.now) }
     ensures gives { IfOk result (λ r. Gives rules.now (apply_of (fun_at (funs_of rules.now) fun) (map (doing_of rules.now) es.now) locals.now) r state.old log.old state.new log.new) }
     ensures fits { IfOk result (λ r. IfSome r (IsFitting (exprs_reach es.now))) }

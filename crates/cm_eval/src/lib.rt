@@ -14,9 +14,10 @@ mod state;
 mod stmt;
 
 pub use call::{meets_invariant, run_call};
+pub use compare::log_both;
 pub use log::{CellName, Log};
 pub use outcome::{Args, Outcome};
-pub use state::{Except, State};
+pub use state::{Except, State, same_cell};
 
 #[cfg(test)]
 mod tests;

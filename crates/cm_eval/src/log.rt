@@ -1,7 +1,7 @@
 ghost use Rattle.std.specs.Prelude.{◌≡◌, [], IfOk};
 
 use cm_model::{List, NoMemory};
-use cm_value::{Vals, Value, copy_value};
+use cm_value::{Value, copy_value};
 use std::alloc::Global;
 
 /// The name of a cell: a state, and a key where the state is a map.
@@ -51,15 +51,4 @@ pub fn copy_cell(alloc: Global, cell: &CellName) -> Result<CellName, NoMemory>
         state: cell.state,
         key,
     })
-}
-
-/// Equal values.
-pub fn copy_values(alloc: Global, values: &[Value]) -> Result<Vals, NoMemory>
-    ensures equal { IfOk result (λ copies. copies ≡ values.now) }
-{
-    let mut copies = List::new(alloc);
-    for value in values {
-        copies.push(copy_value(alloc, value)?)?;
-    }
-    Ok(copies)
 }

@@ -1,5 +1,5 @@
-ghost use Rattle.std.specs.Prelude.{◌≡◌, ◌≤◌, ℕ, ℤ, ◌+ℤ◌, Bool, not, ◌==◌, IfOk, IfSome, IsTrue, Some, option_copied, option_map, slice_get};
-ghost use Rattle.cm_model.specs.Kinds.{is_number};
+ghost use Rattle.std.specs.Prelude.{◌≡◌, ◌≤◌, ◌<◌, ℕ, ℤ, ◌+ℤ◌, Bool, not, ◌==◌, IfOk, IfSome, IsTrue, Some, option_copied, option_map, slice_get};
+ghost use Rattle.cm_model.specs.Limits.{variant_limit, is_number};
 ghost use Rattle.cm_value.specs.declared.value.Value.{Value};
 ghost use Rattle.cm_value.specs.Limits.{is_limited};
 ghost use Rattle.cm_eval.specs.declared.operand.Operand.{Operand};
@@ -8,7 +8,7 @@ ghost use Rattle.std.specs.List.{list_all};
 ghost use Rattle.cm_model.specs.WellTyped.{is_range};
 ghost use Rattle.cm_eval.specs.Script.{Blocks, Decides};
 ghost use Rattle.cm_eval.specs.Comparison.{ordered, comparison, parts_of};
-ghost use Rattle.cm_eval.specs.Evaluation.{Doing, field_in, number_of, flag_of, inspects, orders, compares, compares_by, ranged, into_type, value_at};
+ghost use Rattle.cm_eval.specs.Evaluation.{Doing, field_in, number_of, choice_of, inspects, orders, compares, compares_by, ranged, into_type, value_at};
 ghost use Rattle.cm_eval.specs.Evaluation as evaluation;
 ghost use Rattle.cm_eval.specs.Limits.{IsNear, IsFitting, are_limited};
 ghost use Rattle.cm_eval.specs.Going.{Gives};
@@ -17,7 +17,7 @@ use crate::compare::{compare, order};
 use crate::log::Log;
 use crate::rules::Rules;
 use crate::state::State;
-use cm_model::{IntDecl, NoMemory, Op};
+use cm_model::{IntDecl, NoMemory, Op, limits};
 use cm_value::{Vals, Value, copy_value};
 
 /// What an expression gives: a numeral or a sum is a number, every other expression a value of a type.
@@ -49,14 +49,20 @@ pub fn sum(n: i64, by: i64) -> i64
     n + by
 }
 
-// A bool that an operand is.
-fn flag_in(o: &Operand) -> Option<bool>
-    ensures flag { result ≡ flag_of o.now }
+// The variant that an operand is, by its number.
+fn choice(o: &Operand) -> Option<u16>
+    ensures choice { result ≡ choice_of o.now }
+    ensures few { IfSome result (λ n. n < variant_limit) }
 {
     match o {
-        Operand::Plain(Value::Tag(0)) => Some(false),
-        Operand::Plain(Value::Tag(1)) => Some(true),
-        _ => None,
+        Operand::Plain(Value::Tag(n)) => {
+            if *n < limits::VARIANTS {
+                return Some(*n);
+            }
+            None
+        }
+        Operand::Plain(_) => None,
+        Operand::Number(_) => None,
     }
 }
 
@@ -88,14 +94,10 @@ pub fn inspect(
 ) -> Result<Option<bool>, NoMemory>
     ensures gives { IfOk result (λ r. Gives rules.now (inspects o.now) r state.now log.old state.now log.new) }
 {
-    match flag_in(o) {
-        Some(true) => {
-            log.steps.push(1)?;
-            Ok(Some(true))
-        }
-        Some(false) => {
-            log.steps.push(0)?;
-            Ok(Some(false))
+    match choice(o) {
+        Some(n) => {
+            log.steps.push(n as u8)?;
+            Ok(Some(n == 1))
         }
         None => Ok(None),
     }

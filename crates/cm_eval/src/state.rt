@@ -6,9 +6,9 @@ ghost use Rattle.cm_value.specs.Limits.{is_limited};
 ghost use Rattle.cm_eval.specs.Limits.{are_limited};
 ghost use Rattle.cm_eval.specs.Places.{Finds};
 
-use crate::log::{CellName, copy_cell, copy_values};
+use crate::log::{CellName, copy_cell};
 use cm_model::{List, Model, NoMemory, StateDecl};
-use cm_value::{Vals, Value, copy_value, least, same};
+use cm_value::{Vals, Value, copy_value, copy_values, least, same};
 use std::alloc::Global;
 
 /// A cell whose value is not its state's default.
@@ -76,10 +76,10 @@ impl State {
         requires state { state < length self.now.defaults }
         ensures value { look_up self.now (named state (option_copied key.entry)) ≡ Some result.now }
     {
-        match find(self.exceptions.as_slice(), state, key) {
-            Some(at) => &self.exceptions.as_slice()[at].value,
-            None => &self.defaults.as_slice()[usize::from(state)],
-        }
+        let Some(value) = self.value(state, key) else {
+            unreachable!()
+        };
+        value
     }
 
     /// Gives a cell another value. Where the cell is named already it keeps its place, else it comes last.
@@ -168,6 +168,13 @@ fn is_key(left: &Value, right: &Value) -> bool
     ensures { result ≡ same_value left.now right.now }
 {
     same(left, right)
+}
+
+/// Whether two names are of one cell.
+pub fn same_cell(left: &CellName, right: &CellName) -> bool
+    ensures exact { result ≡ same_cell left.now right.now }
+{
+    is_cell(left, right.state, right.key.as_ref())
 }
 
 // Whether the cell is this one.

@@ -1,5 +1,6 @@
 ghost use Rattle.std.specs.Prelude.{◌≡◌, ◌≤◌, ◌<◌, ℕ, Bool, IfOk, IfSome, OnOk, IsTrue, List, length, take, map, Some};
 ghost use Rattle.cm_model.specs.declared.body.Stmt.{Stmt};
+ghost use Rattle.cm_model.specs.Limits.{shift_limit};
 ghost use Rattle.cm_value.specs.declared.value.Value.{Value};
 ghost use Rattle.cm_value.specs.Limits.{is_limited};
 ghost use Rattle.cm_eval.specs.Comparison.{option_of};
@@ -54,7 +55,7 @@ pub fn run_body(
     log: &mut Log,
 ) -> Result<Option<Value>, NoMemory>
     requires rules { AreFitting rules.now }
-    requires reach { body_reach body.now ≤ 65 }
+    requires reach { body_reach body.now ≤ shift_limit }
     requires args { IsTrue (are_limited args) }
     ensures gives { IfOk result (λ r. Gives rules.now (body_of rules.now.ints.now (funs_of rules.now) body.now args) r state.old log.old state.new log.new) }
     ensures limited { IfOk result (λ r. IfSome r (λ v. IsTrue (is_limited v))) }
@@ -77,7 +78,7 @@ fn run_block(
     log: &mut Log,
 ) -> Result<Flow, NoMemory>
     requires rules { AreFitting rules.now }
-    requires reach { body_reach body.now ≤ 65 }
+    requires reach { body_reach body.now ≤ shift_limit }
     requires locals { IsTrue (are_limited locals.old) }
     ensures gives { IfOk result (λ f. GivesTurn rules.now (block_in rules.now body.now) f locals.old locals.new state.old log.old state.new log.new) }
     ensures limited { IfOk result IsLimitedFlow }
@@ -104,7 +105,7 @@ fn run_statement(
     log: &mut Log,
 ) -> Result<Flow, NoMemory>
     requires rules { AreFitting rules.now }
-    requires reach { stmt_reach s.now ≤ 65 }
+    requires reach { stmt_reach s.now ≤ shift_limit }
     requires locals { IsTrue (are_limited locals.old) }
     ensures gives { IfOk result (λ f. GivesTurn rules.now (turn_in rules.now s.now) f locals.old locals.new state.old log.old state.new log.new) }
     ensures limited { IfOk result IsLimitedFlow }
@@ -155,7 +156,7 @@ fn run_let(
     log: &mut Log,
 ) -> Result<Flow, NoMemory>
     requires rules { AreFitting rules.now }
-    requires reach { reach_of e.now ≤ 65 }
+    requires reach { reach_of e.now ≤ shift_limit }
     requires locals { IsTrue (are_limited locals.old) }
     ensures gives { IfOk result (λ f. GivesTurn rules.now (let_of (doing_of rules.now e.now)) f locals.old locals.new state.old log.old state.new log.new) }
     ensures limited { IfOk result IsLimitedFlow }
@@ -184,8 +185,8 @@ fn run_set(
     log: &mut Log,
 ) -> Result<Flow, NoMemory>
     requires rules { AreFitting rules.now }
-    requires key { key_reach key.now ≤ 65 }
-    requires reach { reach_of e.now ≤ 65 }
+    requires key { key_reach key.now ≤ shift_limit }
+    requires reach { reach_of e.now ≤ shift_limit }
     requires locals { IsTrue (are_limited locals.now) }
     ensures gives { IfOk result (λ f. GivesTurn rules.now (set_of s (key_doing rules.now key.now) (doing_of rules.now e.now)) f locals.now locals.now state.old log.old state.new log.new) }
     ensures limited { IfOk result IsLimitedFlow }
@@ -221,7 +222,7 @@ fn run_write(
     log: &mut Log,
 ) -> Result<Flow, NoMemory>
     requires rules { AreFitting rules.now }
-    requires reach { reach_of e.now ≤ 65 }
+    requires reach { reach_of e.now ≤ shift_limit }
     requires locals { IsTrue (are_limited locals.now) }
     ensures gives { IfOk result (λ f. GivesTurn rules.now (write_of cell (doing_of rules.now e.now)) f locals.now locals.now state.old log.old state.new log.new) }
     ensures limited { IfOk result IsLimitedFlow }
@@ -248,7 +249,7 @@ fn run_branch(
     log: &mut Log,
 ) -> Result<Flow, NoMemory>
     requires rules { AreFitting rules.now }
-    requires reach { body_reach body.now ≤ 65 }
+    requires reach { body_reach body.now ≤ shift_limit }
     requires locals { IsTrue (are_limited locals.old) }
     ensures gives { IfOk result (λ f. GivesTurn rules.now (branch_of (map (turn_in rules.now) body.now)) f locals.old locals.new state.old log.old state.new log.new) }
     ensures limited { IfOk result IsLimitedFlow }
@@ -271,7 +272,7 @@ fn evaluate_option(
     log: &mut Log,
 ) -> Result<Option<Option<Value>>, NoMemory>
     requires rules { AreFitting rules.now }
-    requires reach { reach_of e.now ≤ 65 }
+    requires reach { reach_of e.now ≤ shift_limit }
     requires locals { IsTrue (are_limited locals.now) }
     ensures gives { IfOk result (λ r. Gives rules.now (opened (doing_of rules.now e.now) locals.now) r state.old log.old state.new log.new) }
     ensures limited { IfOk result (λ r. IfSome r (λ o. IfSome o (λ v. IsTrue (is_limited v)))) }
@@ -322,7 +323,7 @@ fn run_some(
 ) -> Result<Flow, NoMemory>
     requires rules { AreFitting rules.now }
     requires value { IsTrue (is_limited v) }
-    requires reach { body_reach body.now ≤ 65 }
+    requires reach { body_reach body.now ≤ shift_limit }
     requires locals { IsTrue (are_limited locals.old) }
     ensures gives { IfOk result (λ f. GivesTurn rules.now (some_branch_of v (map (turn_in rules.now) body.now)) f locals.old locals.new state.old log.old state.new log.new) }
     ensures limited { IfOk result IsLimitedFlow }
@@ -346,7 +347,7 @@ fn run_assume(
     log: &mut Log,
 ) -> Result<Flow, NoMemory>
     requires rules { AreFitting rules.now }
-    requires reach { reach_of e.now ≤ 65 }
+    requires reach { reach_of e.now ≤ shift_limit }
     requires locals { IsTrue (are_limited locals.now) }
     ensures gives { IfOk result (λ f. GivesTurn rules.now (assume_of (doing_of rules.now e.now)) f locals.now locals.now state.old log.old state.new log.new) }
     ensures limited { IfOk result IsLimitedFlow }
@@ -369,7 +370,7 @@ fn run_return(
     log: &mut Log,
 ) -> Result<Flow, NoMemory>
     requires rules { AreFitting rules.now }
-    requires reach { reach_of e.now ≤ 65 }
+    requires reach { reach_of e.now ≤ shift_limit }
     requires locals { IsTrue (are_limited locals.now) }
     ensures gives { IfOk result (λ f. GivesTurn rules.now (return_of (doing_of rules.now e.now)) f locals.now locals.now state.old log.old state.new log.new) }
     ensures limited { IfOk result IsLimitedFlow }

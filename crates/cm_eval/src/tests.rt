@@ -4,8 +4,6 @@ ghost use Rattle.cm_eval.specs.State.{Touched};
 ghost use Rattle.cm_eval.specs.Run.{Trace, logged};
 ghost use Rattle.cm_eval.specs.Going.{compared_in};
 
-mod deep;
-
 use super::*;
 use std::test::Fail;
 
