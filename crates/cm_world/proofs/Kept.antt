@@ -1,19 +1,26 @@
 -- What a run keeps of the state and of the touched cells.
-use Rattle.std.proofs.Common.{◌≡◌, ℕ, ◌+◌, ◌==◌, Bool, true, false, List, [], ◌∷◌, ◌++◌, map, length, Option, Some, None, slice_get, refl, if◌then◌else◌}
+use Rattle.std.proofs.Common.{◌≡◌, ℕ, suc, ◌+◌, ◌==◌, Bool, true, false, ◌&&◌, ◌||◌, List, [], ◌∷◌, ◌++◌, length, Option, Some, None, slice_get, refl, sym, ap, ◌∙◌, subst, if◌then◌else◌, arith}
 use Rattle.cm_model.specs.declared.ty.IntDecl.{IntDecl}
 use Rattle.cm_model.specs.declared.body.Expr.{Expr}
 use Rattle.cm_model.specs.declared.body.StateDecl.{StateDecl}
 use Rattle.cm_value.specs.declared.value.Value.{Value}
-use Rattle.cm_value.specs.declared.value.Value.TheOpen.{Value-F}
-use Rattle.cm_value.specs.declared.value.Value.TheFolds.{map-Value}
 use Rattle.cm_eval.specs.declared.log.CellName.{CellName}
 use Rattle.cm_eval.specs.Script.{Replies, Blocks, Decides, Reads, Writes}
-use Rattle.cm_eval.specs.Comparison.{Comparing, comparison_step, fields_compared, payload_compared, or_stop, elem_of, int_of, tag_of, parts_of, option_of, variant, distinguished, ordered, presence}
-use Rattle.cm_eval.specs.State.{Store, Touched, look_up, put, with_cell, marked}
+use Rattle.cm_eval.specs.State.{Store, Touched, look_up, put, with_cell, marked, same_value, same_key, same_cell}
 use Rattle.cm_eval.specs.Evaluation.{Doing, invariant_of}
-use Rattle.cm_eval.specs.Run.{Trace, Replied, Blocked, Logs, End, Ended, Stopped, logged, run, asked, checked, is_true, keys_compared, cells_compared, touch_of, added, touched_with, touched_at}
+use Rattle.cm_eval.specs.Run.{Trace, Replied, Blocked, Logs, End, Ended, Stopped, logged, run, asked, checked, keys_compared, cells_compared, touch_of, added, touched_with, touched_at}
 use Rattle.cm_eval.specs.Going.{compared_in}
-use Rattle.cm_eval.proofs.Folds.{fold_related, Related}
+use Rattle.cm_eval.proofs.Same.{same_cell_equal}
+use Rattle.cm_eval.proofs.Comparing.{comparison_goes}
+
+-- whether a cell is among those touched
+abbrev pub is_touched : List CellName → CellName → Bool
+is_touched [] c = false
+is_touched (d ∷ ds) c = same_cell c d || is_touched ds c
+
+last_is : {X : Type 0} (xs : List X) (x : X) → slice_get (xs ++ x ∷ []) (length xs) ≡ Some x
+last_is [] x = refl
+last_is (y ∷ ys) x = last_is ys x
 
 module _ (P : Store → Touched → Type 0) where
   -- how a run replies
@@ -32,121 +39,67 @@ module _ (P : Store → Touched → Type 0) where
   logged_keeps (Logs t d more) log h = logged_keeps more (log ++ d ∷ []) h
 
   asked_keeps : (t : Touched) (d : Doing) (more : Trace) → Keeps more → Keeps (asked t d more)
-  asked_keeps t (Replies v) more h = by (is_true v)
-    where
-      by : (b : Bool) → Keeps (if b then more else Blocked t)
-      by true = h
-      by false = tt
+  asked_keeps t (Replies v) more h = h
   asked_keeps t Blocks more h = tt
   asked_keeps t (Decides d k) more h = asked_keeps t (k d) more h
   asked_keeps t (Reads c k) more h = tt
   asked_keeps t (Writes c v k) more h = tt
 
-  -- a comparison goes on with what is done with its answer
-  abbrev Compares : Comparing Trace → Value → Type 0
-  Compares m v = (w : Value) (k : Bool → Trace) → ((b : Bool) → Keeps (k b)) → Keeps (m w k)
+  -- a comparison goes on with whether the two are equal
+  compared_keeps : (t : Touched) (v w : Value) (k : Bool → Trace) → Keeps (k (same_value v w)) → Keeps (compared_in t v w k)
+  compared_keeps t v w k h = comparison_goes Trace (Blocked t) (λ d more. Logs t d (more d)) Keeps (λ d more g. g) tt v w k h
 
-  module _ (t : Touched) where
-    abbrev step : Value-F (Comparing Trace) → Comparing Trace
-    step = comparison_step Trace (Blocked t) (λ d more. Logs t d (more d))
-
-    abbrev Each : Type 0
-    Each = Related (Comparing Trace) Compares step
-
-    abbrev meanings : Value-F Each → Value-F (Comparing Trace)
-    meanings = map-Value Each (Comparing Trace) (λ p. p.0.0)
-
-    fields_keep : (ps : List Each) (vs : List Value) (k : Bool → Trace) → ((b : Bool) → Keeps (k b))
-        → Keeps (fields_compared Trace (Blocked t) (map (λ p. p.0.0) ps) vs k)
-    fields_keep [] [] k h = h true
-    fields_keep [] (v ∷ vs) k h = tt
-    fields_keep (p ∷ ps) [] k h = tt
-    fields_keep (p ∷ ps) (v ∷ vs) k h =
-        p.1 v (λ s. if s then fields_compared Trace (Blocked t) (map (λ (q : Each). q.0.0) ps) vs k else k false) (by (fields_keep ps vs k h))
-      where
-        by : Keeps (fields_compared Trace (Blocked t) (map (λ (q : Each). q.0.0) ps) vs k) → (b : Bool)
-            → Keeps (if b then fields_compared Trace (Blocked t) (map (λ (q : Each). q.0.0) ps) vs k else k false)
-        by more true = more
-        by more false = h false
-
-    forms_keep : (y : Value-F Each) (w : Value) (k : Bool → Trace) → ((b : Bool) → Keeps (k b)) → Keeps (step (meanings y) w k)
-    forms_keep (Value-F.Elem m) w k h = found (elem_of w)
-      where
-        found : (o : Option ℕ) → Keeps (or_stop (Blocked t) o (λ n. Logs t (distinguished m n) (k (distinguished m n == 0))))
-        found (Some n) = h (distinguished m n == 0)
-        found None = tt
-    forms_keep (Value-F.Int m) w k h = found (int_of w)
-      where
-        found : (o : _) → Keeps (or_stop (Blocked t) o (λ n. Logs t (ordered m n) (k (ordered m n == 1))))
-        found (Some n) = h (ordered m n == 1)
-        found None = tt
-    forms_keep (Value-F.Tag m) w k h = found (variant m) (tag_of w)
-      where
-        found : (o p : Option ℕ) → Keeps (or_stop (Blocked t) o (λ l. or_stop (Blocked t) p (λ r. Logs t l (Logs t r (k (l == r))))))
-        found (Some l) (Some r) = h (l == r)
-        found (Some l) None = tt
-        found None p = tt
-    forms_keep (Value-F.Rec ps) w k h = found (parts_of w)
-      where
-        found : (o : Option (List Value)) → Keeps (or_stop (Blocked t) o (λ vs. fields_compared Trace (Blocked t) (map (λ (p : Each). p.0.0) ps) vs k))
-        found (Some vs) = fields_keep ps vs k h
-        found None = tt
-    forms_keep Value-F.None w k h = found (option_of w)
-      where
-        found : (o : Option (Option Value)) → Keeps (or_stop (Blocked t) o (λ p. Logs t 0 (Logs t (presence p) (k (0 == presence p)))))
-        found (Some p) = h (0 == presence p)
-        found None = tt
-    forms_keep (Value-F.Some q) w k h = found (option_of w)
-      where
-        paid : (p : Option Value) → Keeps (payload_compared Trace q.0.0 p k)
-        paid (Some v) = q.1 v k h
-        paid None = h false
-
-        found : (o : Option (Option Value)) → Keeps (or_stop (Blocked t) o (λ p. Logs t 1 (Logs t (presence p) (payload_compared Trace q.0.0 p k))))
-        found (Some p) = paid p
-        found None = tt
-
-    compared_keeps : (v w : Value) (k : Bool → Trace) → ((b : Bool) → Keeps (k b)) → Keeps (compared_in t v w k)
-    compared_keeps = fold_related (Comparing Trace) Compares step forms_keep
-
-  keys_keep : (k l : Option Value) (t : Touched) (f : Bool → Trace) → ((b : Bool) → Keeps (f b)) → Keeps (keys_compared k l t f)
-  keys_keep None None t f h = h true
-  keys_keep None (Some w) t f h = h false
-  keys_keep (Some v) None t f h = h false
+  keys_keep : (k l : Option Value) (t : Touched) (f : Bool → Trace) → Keeps (f (same_key k l)) → Keeps (keys_compared k l t f)
+  keys_keep None None t f h = h
+  keys_keep None (Some w) t f h = h
+  keys_keep (Some v) None t f h = h
   keys_keep (Some v) (Some w) t f h = compared_keeps t v w f h
 
-  cells_keep : (c d : CellName) (t : Touched) (f : Bool → Trace) → ((b : Bool) → Keeps (f b)) → Keeps (cells_compared c d t f)
-  cells_keep c d t f h = by (c.state == d.state)
+  cells_keep : (c d : CellName) (t : Touched) (f : Bool → Trace) → Keeps (f (same_cell c d)) → Keeps (cells_compared c d t f)
+  cells_keep c d t f h = by (c.state == d.state) h
     where
-      by : (b : Bool) → Keeps (if b then keys_compared c.key d.key t f else f false)
-      by true = keys_keep c.key d.key t f h
-      by false = h false
+      by : (b : Bool) → Keeps (f (b && same_key c.key d.key)) → Keeps (if b then keys_compared c.key d.key t f else f false)
+      by true h = keys_keep c.key d.key t f h
+      by false h = h
 
+  -- a touch finds the cell at its place among those touched, or it is none of them
   touch_keeps : (cells : List CellName) (i : ℕ) (c : CellName) (t : Touched) (found : ℕ → Trace) (fresh : Trace)
-      → ((n : ℕ) → Keeps (found n)) → Keeps fresh → Keeps (touch_of cells i c t found fresh)
-  touch_keeps [] i c t found fresh f g = g
+      → ((n : ℕ) → slice_get cells n ≡ Some c → Keeps (found (i + n))) → (is_touched cells c ≡ false → Keeps fresh)
+      → Keeps (touch_of cells i c t found fresh)
+  touch_keeps [] i c t found fresh f g = g refl
   touch_keeps (d ∷ ds) i c t found fresh f g =
-      cells_keep c d t (λ s. if s then found i else touch_of ds (i + 1) c t found fresh) (by (touch_keeps ds (i + 1) c t found fresh f g))
+      cells_keep c d t (λ s. if s then found i else touch_of ds (i + 1) c t found fresh)
+      (by (same_cell c d) refl
+      (λ no. touch_keeps ds (i + 1) c t found fresh (λ n is. subst (λ m. Keeps (found m)) (omega arith) (f (suc n) is)) (λ more. g (neither no more))))
     where
-      by : Keeps (touch_of ds (i + 1) c t found fresh) → (b : Bool) → Keeps (if b then found i else touch_of ds (i + 1) c t found fresh)
-      by more true = f i
-      by more false = more
+      neither : same_cell c d ≡ false → is_touched ds c ≡ false → (same_cell c d || is_touched ds c) ≡ false
+      neither a b = ap (λ x. x || is_touched ds c) a ∙ b
+
+      by : (b : Bool) → same_cell c d ≡ b → (same_cell c d ≡ false → Keeps (touch_of ds (i + 1) c t found fresh))
+          → Keeps (if b then found i else touch_of ds (i + 1) c t found fresh)
+      by true is later = subst (λ m. Keeps (found m)) (omega arith) (f 0 (ap Some (sym (same_cell_equal c d is))))
+      by false is later = later is
 
   checked_keeps : (ints : List IntDecl) (inv : Option Expr) (v : Value) (t : Touched) (more : Trace) → Keeps more → Keeps (checked ints inv v t more)
   checked_keeps ints None v t more h = h
   checked_keeps ints (Some e) v t more h = asked_keeps t (invariant_of ints e v) more h
 
+  -- what may be asked of a new cell, and of one that is written
   module _ (ints : List IntDecl) (states : List StateDecl)
-      (adds : (s : Store) (t : Touched) (c : CellName) (d : StateDecl) → slice_get states c.state ≡ Some d → P s t → P s (with_cell t c))
-      (writes : (s : Store) (t : Touched) (c : CellName) (x : Value) (i : ℕ) → P s t → P (put s c x) (marked t i)) where
+      (adds : (s : Store) (t : Touched) (c : CellName) (d : StateDecl) → slice_get states c.state ≡ Some d → is_touched t.cells c ≡ false
+      → P s t → P s (with_cell t c))
+      (writes : (s : Store) (t : Touched) (c : CellName) (x : Value) (i : ℕ) → slice_get t.cells i ≡ Some c → P s t → P (put s c x) (marked t i)) where
     touched_keeps : (s : Store) (c : CellName) (t : Touched) (k : Value → ℕ → Touched → Trace) → P s t
-        → ((v : Value) (i : ℕ) (after : Touched) → P s after → Keeps (k v i after)) → Keeps (touched_at ints states s c t k)
+        → ((v : Value) (i : ℕ) (after : Touched) → slice_get after.cells i ≡ Some c → P s after → Keeps (k v i after))
+        → Keeps (touched_at ints states s c t k)
     touched_keeps s c t k h more = found (slice_get states c.state) refl (look_up s c)
       where
         found : (o : Option StateDecl) → slice_get states c.state ≡ o → (p : Option Value) → Keeps (touched_with ints o p c t k)
         found (Some d) is (Some v) =
-            touch_keeps t.cells 0 c t (λ i. k v i t) (added ints d.inv v c t (k v)) (λ i. more v i t h)
-            (checked_keeps ints d.inv v (with_cell t c) (k v (length t.cells) (with_cell t c)) (more v (length t.cells) (with_cell t c) (adds s t c d is h)))
+            touch_keeps t.cells 0 c t (λ i. k v i t) (added ints d.inv v c t (k v))
+            (λ i at. subst (λ m. Keeps (k v m t)) (omega arith) (more v i t at h))
+            (λ new. checked_keeps ints d.inv v (with_cell t c) (k v (length t.cells) (with_cell t c))
+            (more v (length t.cells) (with_cell t c) (last_is t.cells c) (adds s t c d is new h)))
         found (Some d) is None = tt
         found None is p = tt
 
@@ -155,10 +108,10 @@ module _ (P : Store → Touched → Type 0) where
     run_keeps Blocks s t h = tt
     run_keeps (Decides d k) s t h = run_keeps (k d) s t h
     run_keeps (Reads c k) s t h =
-        touched_keeps s c t (λ v i after. run ints states s after (k v)) h (λ v i after g. run_keeps (k v) s after g)
+        touched_keeps s c t (λ v i after. run ints states s after (k v)) h (λ v i after at g. run_keeps (k v) s after g)
     run_keeps (Writes c x k) s t h =
         touched_keeps s c t (λ v i after. run ints states (put s c x) (marked after i) k) h
-        (λ v i after g. run_keeps k (put s c x) (marked after i) (writes s after c x i g))
+        (λ v i after at g. run_keeps k (put s c x) (marked after i) (writes s after c x i at g))
 
     pub script_keeps : (d : Doing) (s : Store) (t : Touched) (log : List ℕ) → P s t → EndKeeps (logged log (run ints states s t d))
     script_keeps d s t log h = logged_keeps (run ints states s t d) log (run_keeps d s t h)

@@ -33,8 +33,8 @@ module _ (t : Tables) (ds : List Value) where
   evaluation_keeps : (i : ℕ) (args : List Value) (s : Store) (touched : Touched) (log : List ℕ) → Good s touched → EndKeeps Good (evaluation_of t i args s touched log)
   evaluation_keeps i args s touched log h =
       script_keeps Good t.ints t.states
-      (λ s u c d is g. (g.0, one_more (length t.states) u.cells c (slice_get_within t.states c.state d is) g.1))
-      (λ s u c x i g. (g.0, g.1)) (call_of t i args) s touched log h
+      (λ s u c d is new g. (g.0, one_more (length t.states) u.cells c (slice_get_within t.states c.state d is) g.1))
+      (λ s u c x i at g. (g.0, g.1)) (call_of t i args) s touched log h
 
   abbrev OrderKeeps : OrderEnd → Type 0
   OrderKeeps (Replied v w s touched log) = Good s touched

@@ -1,5 +1,6 @@
 -- When a pair passes the limits.
 use Rattle.std.specs.Prelude.{◌≡◌, ℕ, ◌<◌, List, [], length, get_or}
+use Rattle.cm_model.specs.Limits.{decision_limit, cell_limit}
 use Rattle.cm_model.specs.Tables.{Tables}
 use Rattle.cm_model.specs.declared.pair.Pair.{Pair}
 use Rattle.cm_model.specs.declared.pair.Over.{Over}
@@ -25,17 +26,17 @@ pub record TooManyPaths (t : Tables) (p : Pair) (most : ℕ) : Type 0 where
   pub are : (i : ℕ) → i < length paths → IsPath t p (get_or paths i [])
   pub many : most < length paths
 
--- a path of more than 1,024 decisions
+-- a path of too many decisions
 pub record TooLongAPath (t : Tables) (p : Pair) : Type 0 where
   pub world : World
   pub is_world : IsWorldOf t p world
-  pub long : 1024 < length (path_of_world t p world)
+  pub long : decision_limit < length (path_of_world t p world)
 
--- a path that touches more than 48 cells
+-- a path that touches too many cells
 pub record TooManyCells (t : Tables) (p : Pair) : Type 0 where
   pub world : World
   pub is_world : IsWorldOf t p world
-  pub many : 48 < length (touched_cells t p world)
+  pub many : cell_limit < length (touched_cells t p world)
 
 -- the pair passes this limit
 abbrev pub IsOverBy : Tables → Pair → ℕ → Over → Type 0

@@ -13,7 +13,7 @@ use Rattle.cm_world.specs.declared.order.BothOrders.{BothOrders}
 use Rattle.cm_world.specs.declared.order.BothOrders.TheVariants as both
 use Rattle.cm_world.specs.Order.{OrderEnd, Replied, Blocked, BothEnd, BothReplied, OneBlocked}
 use Rattle.cm_world.specs.World.{IsCellOf}
-use Rattle.cm_world.specs.Path.{inspecting, fields_inspected}
+use Rattle.cm_world.specs.Path.{inspection_logged, fields_logged}
 
 abbrev pub order_end : OneOrder → Log → OrderEnd
 order_end (one.Replied v w s) l = Replied v w s (touched_of l) l.steps
@@ -28,10 +28,10 @@ abbrev pub Inspection : (List ℕ → List ℕ) → Bool → List ℕ → List �
 Inspection m on log after = (rest : List ℕ) → log ++ m rest ≡ (if on then after ++ rest else after)
 
 abbrev pub Inspects : Value → Value → Bool → List ℕ → List ℕ → Type 0
-Inspects v w = Inspection (inspecting v w)
+Inspects v w = Inspection (inspection_logged v w)
 
 abbrev pub InspectsAll : List Value → List Value → Bool → List ℕ → List ℕ → Type 0
-InspectsAll vs ws = Inspection (fields_inspected (map inspecting vs) ws)
+InspectsAll vs ws = Inspection (fields_logged (map inspection_logged vs) ws)
 
 -- a cell of the model has the same value in both
 abbrev pub Agree : Tables → Store → Store → CellName → Type 0

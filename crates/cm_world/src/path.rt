@@ -3,13 +3,13 @@ ghost use Rattle.cm_eval.specs.State.{look_up};
 ghost use Rattle.cm_eval.specs.Going.{touched_of};
 ghost use Rattle.cm_eval.specs.Comparison.{variant};
 ghost use Rattle.cm_world.specs.World.{IsWorldOf};
-ghost use Rattle.cm_world.specs.Path.{path_of_world, last_comparison, cells_inspected, cell_inspected, variants_inspected, logs};
+ghost use Rattle.cm_world.specs.Path.{path_of_world, last_comparison, cells_inspected, cell_inspected, variants_logged};
 ghost use Rattle.cm_world.specs.Ran.{Inspection, Inspects, InspectsAll, AreDeclared};
 
 use crate::World;
 use crate::order::{BothOrders, Outcomes, run_both};
-use cm_eval::{CellName, Log, State};
-use cm_model::{List, Model, NoMemory, Pair};
+use cm_eval::{CellName, Log, State, log_both};
+use cm_model::{List, Model, NoMemory, Pair, limits};
 use cm_value::Value;
 use std::alloc::Global;
 
@@ -116,23 +116,19 @@ fn inspect(left: &Value, right: &Value, steps: &mut List<u8>) -> Result<bool, No
             Ok(r)
         }
         (Value::None, Value::None) => {
-            steps.push(0)?;
-            steps.push(0)?;
-            Ok(true)
+            let same = log_both(0, 0, steps)?;
+            Ok(same)
         }
         (Value::None, Value::Some(_)) => {
-            steps.push(0)?;
-            steps.push(1)?;
-            Ok(false)
+            let same = log_both(0, 1, steps)?;
+            Ok(same)
         }
         (Value::Some(_), Value::None) => {
-            steps.push(1)?;
-            steps.push(0)?;
-            Ok(false)
+            let same = log_both(1, 0, steps)?;
+            Ok(same)
         }
         (Value::Some(m), Value::Some(n)) => {
-            steps.push(1)?;
-            steps.push(1)?;
+            log_both(1, 1, steps)?;
             let r = inspect(m.get(), n.get(), steps)?;
             Ok(r)
         }
@@ -156,14 +152,13 @@ fn inspect_fields(left: &[Value], right: &[Value], steps: &mut List<u8>) -> Resu
     Ok(true)
 }
 
-// The variants of one enum. Numbers from 64 on are none.
+// The variants of one enum. Numbers past the limit on variants are none.
 fn inspect_variants(left: u16, right: u16, steps: &mut List<u8>) -> Result<bool, NoMemory>
-    ensures inspects { IfOk result (λ on. Inspection (variants_inspected (variant left) (variant right)) on steps.old steps.new) }
+    ensures inspects { IfOk result (λ on. Inspection (variants_logged (variant left) (variant right)) on steps.old steps.new) }
 {
-    if left >= 64 || right >= 64 {
+    if left >= limits::VARIANTS || right >= limits::VARIANTS {
         return Ok(true);
     }
-    steps.push(left as u8)?;
-    steps.push(right as u8)?;
-    Ok(left == right)
+    let same = log_both(left as u8, right as u8, steps)?;
+    Ok(same)
 }

@@ -1,14 +1,14 @@
 ghost use Rattle.std.specs.Prelude.{◌≡◌, ◌↔◌, IsTrue, map, slice_get};
 ghost use Rattle.std.specs.List.{list_all};
 ghost use Rattle.cm_value.specs.Membership.{is_value_of, are_values_of};
-ghost use Rattle.cm_eval.specs.State.{same_cell, same_value, exception_of};
+ghost use Rattle.cm_eval.specs.State.{exception_of};
 ghost use Rattle.cm_world.specs.World.{IsWorldOf, IsStateOf, are_arguments, is_exception, is_value_in, are_apart, is_there};
 
 use crate::World;
 use crate::states::is_cell;
-use cm_eval::{CellName, Except, State};
+use cm_eval::{CellName, Except, State, same_cell};
 use cm_model::{Model, Pair, Part, StateDecl, Ty};
-use cm_value::{Value, member, same};
+use cm_value::{Value, member};
 
 /// Whether this is a world of the pair. Its state has a default of the value type for each declared state;
 /// each exception is of a cell of the model and has a value of its type, and no two are of one cell. Each call
@@ -128,26 +128,4 @@ fn is_named(exceptions: &[Except], cell: &CellName) -> bool
         }
     }
     false
-}
-
-// Whether two names are of one cell.
-fn same_cell(left: &CellName, right: &CellName) -> bool
-    ensures exact { result ≡ same_cell left.now right.now }
-{
-    if left.state != right.state {
-        return false;
-    }
-    match (&left.key, &right.key) {
-        (None, None) => true,
-        (Some(left), Some(right)) => same_value(left, right),
-        (None, Some(_)) => false,
-        (Some(_), None) => false,
-    }
-}
-
-// Whether two values are one.
-fn same_value(left: &Value, right: &Value) -> bool
-    ensures exact { result ≡ same_value left.now right.now }
-{
-    same(left, right)
 }
