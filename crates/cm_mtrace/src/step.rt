@@ -1,6 +1,6 @@
 // The lines of a text, one after another.
 ghost use Rattle.std.specs.Prelude.{◌≡◌, ◌-◌, ◌+◌, ◌^◌, ◌<◌, ◌≤◌, ℕ, List, length, IfOk, MatchOption};
-ghost use Rattle.cm_mtrace.specs.Reading.{Ends, SectionSteps, Steps};
+ghost use Rattle.cm_mtrace.specs.Reading.{Ends, Reads, SectionSteps, Steps};
 ghost use Rattle.cm_mtrace.specs.declared.item.Item.{Item};
 
 use crate::Item;
@@ -81,6 +81,30 @@ pub struct Ending<'a> {
     pub left: Option<&'a [u8]>,
 }
 
+// Reads entries as long as they stand at the front. Most lines are entries, so these have a loop of their own.
+#[inline(always)]
+fn read_entries<'a>(before: u64, text: &'a [u8], to: &mut Vec<Item>) -> Result<(u64, &'a [u8]), NoMemory>
+    requires { before + length text.now < 2 ^ 64 - 1 }
+    ensures reads { IfOk result (λ r. (first : ℕ) (all : List ℕ) (whole : List (List ℕ)) (old : List Item) → Reads first all whole text.now old to.old.items before
+        → (more : List (List ℕ)) × Reads first all more r.1.now old to.new.items r.0) }
+    ensures counted { IfOk result (λ r. r.0 + length r.1.now ≤ before + length text.now) }
+    ensures shorter { IfOk result (λ r. length r.1.now ≤ length text.now) }
+{
+    if before < 2 {
+        return Ok((before, text));
+    }
+    let mut rest = text;
+    let mut lines = before;
+    'entries: loop {
+        let Some((entry, after)) = entry_at(rest) else {
+            return Ok((lines, rest));
+        };
+        to.push(Item::Entry(entry))?;
+        lines += 1;
+        rest = after;
+    }
+}
+
 /// Reads the whole lines of a text behind so many others, and adds their items.
 pub fn read_lines<'a>(
     alloc: Global,
@@ -95,6 +119,9 @@ pub fn read_lines<'a>(
     let mut rest = text;
     let mut lines = before;
     'lines: loop {
+        let (known, behind) = read_entries(lines, rest, to)?;
+        lines = known;
+        rest = behind;
         match next_step(alloc, lines, rest, to)? {
             Step::Read(after) => {
                 lines += 1;

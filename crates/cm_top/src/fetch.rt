@@ -14,7 +14,7 @@ use std::alloc::Global;
 pub const LIMIT: u64 = 1_073_741_824;
 
 // How many bytes are fetched at once.
-const CHUNK: usize = 131_072;
+const CHUNK: usize = 32_768;
 
 fn buffer(alloc: Global) -> Result<Vec<u8>, Stop>
     ensures ok { IfOk result (λ buf. length buf.items ≡ CHUNK) }

@@ -10,7 +10,7 @@ invariant-pieces g l = record {
   read : (text : List ℕ) × (length text ≡ l.from) × HoldsFront (g.S.Shelf.held l.initial.shelf l.name) text × HasRead l.run text;
   counted : count_of l.run ≤ l.from;
   short : l.from ≤ 1073741824;
-  room : length l.buf.items ≡ 131072;
+  room : length l.buf.items ≡ 32768;
   same : SameFiles (g.S.Shelf.held l.initial.shelf) (g.S.Shelf.held l.shelf);
   later : NoneFalls (g.S.Shelf.faults l.initial.shelf) (g.S.Shelf.faults l.shelf);
 }
