@@ -8,7 +8,7 @@ ghost use Rattle.cm_mtrace.specs.Reading.{IsLine, with_marks, with_size};
 ghost use Rattle.cm_mtrace.specs.Trace.{IsEntry, IsNameByte, IsSectionName, kind_text, line_of, mark_text};
 
 use crate::{Entry, Kind, Who};
-use cm_text::{decimal_at, hexadecimal_at};
+use cm_text::{hexadecimal_at, short_decimal_at};
 use memchr::memchr;
 
 /// The line at the front of a text, and what stands behind its newline.
@@ -19,24 +19,44 @@ pub fn cut(text: &[u8]) -> Option<(&[u8], &[u8])>
     Some((&text[..i], &text[i + 1..]))
 }
 
-fn who(mark: u8) -> Option<Who>
-    ensures { MatchOption result ((w : Who) → mark ∷ [] ≢ mark_text w) (λ w. mark ∷ [] ≡ mark_text w) }
+// Marks and kinds can't be foreseen: these compile to no branch.
+#[inline(always)]
+fn is_mark(mark: u8) -> bool
+    ensures { IsTrue result ↔ ((w : Who) × (mark ∷ [] ≡ mark_text w)) }
 {
-    match mark {
-        b'a' => Some(Who::A),
-        b'b' => Some(Who::B),
-        b'-' => Some(Who::Other),
-        _ => None,
+    (mark == b'a') | (mark == b'b') | (mark == b'-')
+}
+
+#[inline(always)]
+fn who(mark: u8) -> Who
+    requires { (w : Who) × (mark ∷ [] ≡ mark_text w) }
+    ensures { mark ∷ [] ≡ mark_text result }
+{
+    if mark == b'a' {
+        Who::A
+    } else if mark == b'b' {
+        Who::B
+    } else {
+        Who::Other
     }
 }
 
-fn kind(letter: u8) -> Option<Kind>
-    ensures { MatchOption result ((k : Kind) → letter ∷ [] ≢ kind_text k) (λ k. letter ∷ [] ≡ kind_text k) }
+#[inline(always)]
+fn is_kind(letter: u8) -> bool
+    ensures { IsTrue result ↔ ((k : Kind) × (letter ∷ [] ≡ kind_text k)) }
 {
-    match letter {
-        b'r' => Some(Kind::Read),
-        b'w' => Some(Kind::Write),
-        _ => None,
+    (letter == b'r') | (letter == b'w')
+}
+
+#[inline(always)]
+fn kind(letter: u8) -> Kind
+    requires { (k : Kind) × (letter ∷ [] ≡ kind_text k) }
+    ensures { letter ∷ [] ≡ kind_text result }
+{
+    if letter == b'w' {
+        Kind::Write
+    } else {
+        Kind::Read
     }
 }
 
@@ -46,16 +66,14 @@ fn marks_at(text: &[u8]) -> Option<(Who, Kind, &[u8])>
     ensures { MatchOption result ((w : Who) (k : Kind) (rest : List ℕ) → text.now ≢ with_marks w k rest)
         (λ r. text.now ≡ with_marks r.0 r.1 r.2.now) }
 {
-    let [b' ', mark, b' ', letter, b' ', rest @ ..] = text else {
+    let [before, mark, between, letter, after, rest @ ..] = text else {
         return None;
     };
-    let Some(who) = who(*mark) else {
+    let spaced = (*before == b' ') & (*between == b' ') & (*after == b' ');
+    if !(spaced & is_mark(*mark) & is_kind(*letter)) {
         return None;
-    };
-    let Some(kind) = kind(*letter) else {
-        return None;
-    };
-    Some((who, kind, rest))
+    }
+    Some((who(*mark), kind(*letter), rest))
 }
 
 // What stands behind a byte at the front of a text.
@@ -78,7 +96,7 @@ fn size_at(text: &[u8]) -> Option<(u64, &[u8])>
     let Some(digits) = behind(text, b' ') else {
         return None;
     };
-    let Some((size, rest)) = decimal_at(digits, 4096) else {
+    let Some((size, rest)) = short_decimal_at(digits, 4096) else {
         return None;
     };
     let Some(rest) = behind(rest, b'\n') else {
@@ -101,7 +119,7 @@ pub fn entry_at(text: &[u8]) -> Option<(Entry, &[u8])>
     ensures { MatchOption result ((e : Entry) (rest : List ℕ) → IsEntry e → text.now ≢ line_of (items.Entry e) ++ codes "\n" ++ rest)
         (λ r. IsEntry r.0 × (text.now ≡ line_of (items.Entry r.0) ++ codes "\n" ++ r.1.now)) }
 {
-    let Some((core, rest)) = decimal_at(text, 1023) else {
+    let Some((core, rest)) = short_decimal_at(text, 1023) else {
         return None;
     };
     let Some((who, kind, rest)) = marks_at(rest) else {

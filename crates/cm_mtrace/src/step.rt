@@ -83,7 +83,11 @@ pub struct Ending<'a> {
 
 // Reads entries as long as they stand at the front. Most lines are entries, so these have a loop of their own.
 #[inline(always)]
-fn read_entries<'a>(before: u64, text: &'a [u8], to: &mut Vec<Item>) -> Result<(u64, &'a [u8]), NoMemory>
+fn read_entries<'a>(
+    before: u64,
+    text: &'a [u8],
+    to: &mut Vec<Item>,
+) -> Result<(u64, &'a [u8]), NoMemory>
     requires { before + length text.now < 2 ^ 64 - 1 }
     ensures reads { IfOk result (λ r. (first : ℕ) (all : List ℕ) (whole : List (List ℕ)) (old : List Item) → Reads first all whole text.now old to.old.items before
         → (more : List (List ℕ)) × Reads first all more r.1.now old to.new.items r.0) }

@@ -1,15 +1,17 @@
 -- The digits at the front of a text.
-use Rattle.std.proofs.Common.{arith, ◌≡◌, ◌≢◌, ℕ, ◌+◌, ◌*◌, ◌^◌, ◌<◌, ◌≤◌, List, [], ◌∷◌, ◌++◌, length, take, drop, get_or, ap, sym, subst, refl, ◌∙◌, inl, inr}
+use Rattle.std.proofs.Common.{arith, ◌≡◌, ◌≢◌, ℕ, ◌+◌, ◌*◌, ◌%◌, ◌^◌, ◌<◌, ◌≤◌, List, [], ◌∷◌, ◌++◌, length, take, drop, get_or, ap, sym, subst, refl, ◌∙◌, inl, inr}
 use Rattle.std.specs.List.{AllByRecursion}
-use Rattle.std.specs.Str.Parse.{digits_value}
+use Rattle.std.specs.Str.Parse.{AllDigits, digits_value}
 use Rattle.std.proofs.lemmas.Bool.{cases_lt}
 use Rattle.std.proofs.lemmas.List.{get_or-take, length-take, take-append-drop, take_at, take_more, append-nil}
 use Rattle.std.specs.Char.{digit_value}
-use Rattle.std.proofs.lemmas.Int.Digits.{digits_value_more}
+use Rattle.std.proofs.lemmas.Int.Digits.{digits_value-lt, digits_value_more}
+use Rattle.std.proofs.lemmas.Nat.{mul-mod_first}
+use Rattle.std.proofs.Math.Nat.{mod-add-mod, pow-le-pow_right}
 use Rattle.std.proofs.lemmas.Str.Parse.{digits_value-take-le}
 use Rattle.cm_text.specs.Numeral.{BeginsWithDigit, IsDigit, numeral}
 use Rattle.cm_text.specs.Run.{IsRun, WritesMore}
-use Rattle.cm_text.proofs.Numerals.{IsNumeral, numeral_is, numeral_of}
+use Rattle.cm_text.proofs.Numerals.{IsNumeral, numeral_is, numeral_length, numeral_of}
 
 pub all_push : {X : Type 0} (P : X → Type 0) (xs : List X) (x : X) → AllByRecursion P xs → P x → AllByRecursion P (xs ++ x ∷ [])
 all_push P [] x all p = (p, tt)
@@ -64,6 +66,44 @@ none_at_zero base most text count value low high fits run several zero n rest wi
     let same = (run_is base text count value n rest run is none e).0 in
     let first : get_or (numeral base n) 0 0 ≡ 48 = ap (λ l. get_or l 0 0) (sym same) ∙ get_or-take count text 0 0 (omega arith) ∙ zero in
     omega (arith, is.plain first, ap length same, length-take count text, run.within)
+
+-- nor where there are more digits than any of the numbers has
+pub none_at_long : (base most longest : ℕ) (text : List ℕ) (count value : ℕ) → 2 ≤ base → base ≤ 16
+    → 1 ≤ longest → longest ≤ 64 → most < base ^ longest → IsRun base text count value → longest < count
+    → (n : ℕ) (rest : List ℕ) → n ≤ most → ¬ BeginsWithDigit base rest → text ≢ numeral base n ++ rest
+none_at_long base most longest text count value low high one few fits run long n rest within none e =
+    let room : n < base ^ 64 = omega (arith, fits, within, pow-le-pow_right {n = base} (omega arith) few) in
+    let is = numeral_is base n low high room in
+    let same = (run_is base text count value n rest run is none e).0 in
+    let short : length (numeral base n) ≤ longest = numeral_length base longest n low one few (omega (arith, fits, within)) in
+    omega (arith, ap length same, length-take count text, run.within, short)
+
+-- nor where the digits write too much
+pub none_at_above : (base most : ℕ) (text : List ℕ) (count value : ℕ) → 2 ≤ base → base ≤ 16 → most < base ^ 64
+    → IsRun base text count value → most < value
+    → (n : ℕ) (rest : List ℕ) → n ≤ most → ¬ BeginsWithDigit base rest → text ≢ numeral base n ++ rest
+none_at_above base most text count value low high fits run above n rest within none e =
+    let is = numeral_is base n low high (omega (arith, fits, within)) in
+    let same = (run_is base text count value n rest run is none e).0 in
+    omega (arith, above, within, is.value, ap (digits_value base) same, run.written)
+
+all_digits : (base : ℕ) (cs : List ℕ) → AllByRecursion (IsDigit base) cs → AllDigits base cs
+all_digits base [] all = tt
+all_digits base (c ∷ cs) all = (all.0.below, all_digits base cs all.1)
+
+-- so many digits write less than the power of the base
+pub run_below : (base longest : ℕ) (text : List ℕ) (count value : ℕ) → 2 ≤ base → IsRun base text count value
+    → count ≤ longest → value < base ^ longest
+run_below base longest text count value low run few =
+    let size : length (take count text) ≡ count = omega (arith, length-take count text, run.within) in
+    let below : digits_value base (take count text) < base ^ count =
+    subst (λ k. digits_value base (take count text) < base ^ k) size
+    (digits_value-lt base (take count text) (all_digits base (take count text) run.digits)) in
+    omega (arith, below, run.written, pow-le-pow_right {n = base} (omega arith) few)
+
+-- one digit more behind a number modulo another
+pub digit_modulo : (n base d m : ℕ) → (n % m * base % m + d) % m ≡ (n * base + d) % m
+digit_modulo n base d m = ap (λ k. (k + d) % m) (mul-mod_first n base m) ∙ mod-add-mod (n * base) m d
 
 -- and else the digits are the numeral of their value
 pub run_numeral : (base : ℕ) (text : List ℕ) (count value : ℕ) → 2 ≤ base → base ≤ 16 → value < base ^ 64 → IsRun base text count value → 0 < count → (1 < count → get_or text 0 0 ≢ 48) → text ≡ numeral base value ++ drop count text

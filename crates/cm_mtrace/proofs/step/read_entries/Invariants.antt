@@ -10,7 +10,7 @@ invariant-entries l = record {
   room : l.lines + length l.rest ≤ l.before + length l.text;
   shorter : length l.rest ≤ length l.text;
   goes : (first : ℕ) (all : List ℕ) (whole : List (List ℕ)) (old : List Item) → Reads first all whole l.text old l.fn.to.items l.before
-    → (more : List (List ℕ)) × Reads first all more l.rest old l.to.items l.lines;
+      → (more : List (List ℕ)) × Reads first all more l.rest old l.to.items l.lines;
 }
 
 abbrev pub decreases-entries : goal.decreases-entries

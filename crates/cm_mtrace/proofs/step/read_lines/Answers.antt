@@ -1,4 +1,4 @@
-use Rattle.std.proofs.Common.{arith, ◌∷◌, ◌++◌, [], List, ℕ, subst, sym}
+use Rattle.std.proofs.Common.{arith, ◌∷◌, ◌++◌, [], subst, sym}
 use Rattle.cm_mtrace.specs.Reading.{Reads, Steps}
 use Rattle.cm_mtrace.proofs.Stepping.{reads_push, shorter}
 use Rattle.cm_mtrace.proofs.step.read_lines.Goals as goal
