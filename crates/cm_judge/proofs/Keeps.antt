@@ -13,9 +13,10 @@ use Rattle.cm_mtrace.specs.declared.item.Kind.{Kind}
 use Rattle.cm_mtrace.specs.declared.item.Kind.TheVariants.{Read, Write}
 use Rattle.cm_judge.specs.declared.summary.Cores.{Cores}
 use Rattle.cm_judge.specs.declared.summary.LineSummary.{LineSummary}
-use Rattle.cm_judge.specs.declared.table.Record.{Record}
+use Rattle.cm_judge.specs.declared.slots.Record.{Record}
 use Rattle.cm_judge.specs.Judge.{KeepLine}
-use Rattle.cm_judge.specs.Summary.{AreBoundsOf, cores_of, IsAccess, IsWithin, Touches, with_core}
+use Rattle.cm_judge.specs.Summary.{AreBoundsOf, cores_of, IsAccess, IsWithin, no_cores, Touches, with_core}
+use Rattle.cm_judge.specs.inner.Table.{HoldsFirst, IsFreeFor, Notes}
 
 pub any_of : {X : Type 0} (P : X → Type 0) (xs : List X) (x : X) → Contains xs x → P x → Any P xs
 any_of P xs x has p = (has.0, x, has.1, has.2, p)
@@ -237,3 +238,31 @@ pub Keep-held_elsewhere : (slots rest : List Record) (k line : ℕ) (d : Record)
     → (entries : List Entry) (other : ℕ) → other % 64 ≡ 0 → other ≢ line → KeepLine (slots ++ rest) entries other → KeepLine (set slots k record { line = (get_or slots k d).line; summary = s } ++ rest) entries other
 Keep-held_elsewhere slots rest k line d e s within is own others entries other aligned apart h =
     Keep-elsewhere (slots ++ rest) (set slots k record { line = (get_or slots k d).line; summary = s } ++ rest) record { line = (get_or slots k d).line; summary = s } entries other aligned (held_replaces slots rest k d e s within own others) (λ same. apart (same ∙ is)) h
+
+-- an access of the line that a slot has, noted there
+pub noted_held : (slots rest : List Record) (k line : ℕ) (q : Record) (e : Entry) (s : LineSummary) → HoldsFirst slots line k
+    → q ≡ get_or slots k q → Covers e line → e.who ≢ Other → e.core ≤ 65535
+    → cores_of s e.who e.kind ≡ with_core (cores_of q.summary e.who e.kind) e.core
+    → ((who : Who) (kind : Kind) → (who ≢ e.who) ⊎ (kind ≢ e.kind) → cores_of s who kind ≡ cores_of q.summary who kind)
+    → Notes (slots ++ rest) (set slots k record { line = q.line; summary = s } ++ rest) line e
+noted_held slots rest k line q e s holds is covers judged small own others =
+    let At : Record → Type 0 = λ o.
+    cores_of s e.who e.kind ≡ with_core (cores_of o.summary e.who e.kind) e.core
+    → ((who : Who) (kind : Kind) → (who ≢ e.who) ⊎ (kind ≢ e.kind) → cores_of s who kind ≡ cores_of o.summary who kind)
+    → Notes (slots ++ rest) (set slots k record { line = o.line; summary = s } ++ rest) line e in
+    subst At (sym is) (λ mine theirs. record {
+      here = Keep-held slots rest k line q e s holds.in_table (holds.here q) covers judged small mine theirs;
+      elsewhere = Keep-held_elsewhere slots rest k line q e s holds.in_table (holds.here q) mine theirs;
+    }) own others
+
+-- the first access of a line, in a free slot
+pub noted_filled : (slots rest : List Record) (k line : ℕ) (r : Record) (e : Entry) → IsFreeFor slots line k → r.line ≡ line → Covers e line → e.core ≤ 65535
+    → cores_of r.summary e.who e.kind ≡ with_core no_cores e.core
+    → ((who : Who) (kind : Kind) → (who ≢ e.who) ⊎ (kind ≢ e.kind) → cores_of r.summary who kind ≡ no_cores)
+    → Notes (slots ++ rest) (set slots k r ++ rest) line e
+noted_filled slots rest k line r e free is covers small own others =
+    let step = Replaces-set slots rest k r r free.in_table (λ aligned. absurd (free.free r aligned)) in
+    record {
+      here = λ entries h. Keep-here (slots ++ rest) (set slots k r ++ rest) r entries e line is step covers small (no_cores, inr refl, own) (λ who kind judged apart. inr (others who kind apart)) h;
+      elsewhere = λ entries other aligned apart h. Keep-elsewhere (slots ++ rest) (set slots k r ++ rest) r entries other aligned step (λ same. apart (same ∙ is)) h;
+    }

@@ -4,3 +4,4 @@ pub mod Keeps
 pub mod Same
 pub mod Merges
 pub mod Notes
+pub mod Found

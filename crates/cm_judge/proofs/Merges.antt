@@ -15,10 +15,10 @@ use Rattle.cm_mtrace.specs.declared.item.Who.TheVariants.{A, Other}
 use Rattle.cm_mtrace.specs.declared.item.Kind.{Kind}
 use Rattle.cm_judge.specs.declared.summary.Cores.{Cores}
 use Rattle.cm_judge.specs.declared.summary.LineSummary.{LineSummary}
-use Rattle.cm_judge.specs.declared.table.Record.{Record}
+use Rattle.cm_judge.specs.declared.slots.Record.{Record}
 use Rattle.cm_judge.specs.Conflicts.{AreConflictLines, ConflictAt, IsConflictLine}
 use Rattle.cm_judge.specs.Judge.{KeepLine, StandsFor}
-use Rattle.cm_judge.specs.Table.{HasOneEach, KeepWhat, SameRecords}
+use Rattle.cm_judge.specs.inner.Table.{HasOneEach, KeepWhat, SameRecords}
 use Rattle.cm_judge.specs.Summary.{AreBoundsOf, cores_of, IsSummaryOf, IsWithin, Touches, union_of}
 use Rattle.cm_judge.proofs.Accesses.{a≢other}
 use Rattle.cm_judge.proofs.Keeps.{any_of, bounds_some, max_cases, min_cases, Replaces}
@@ -279,11 +279,14 @@ found_more_at records lines i d within one aligned disputed h = subst (λ (l : L
 found_same_at : (records : List Record) (lines : List ℕ) (i : ℕ) (d : Record) → i < length records → HasOneEach records → ((entries : List Entry) → ((get_or records i d).line % 64 ≡ 0 → IsSummaryOf (get_or records i d).summary entries (get_or records i d).line) → IsConflictLine entries (get_or records i d).line → ⊥) → AreFound records (take i records) lines → AreFound records (take (i + 1) records) lines
 found_same_at records lines i d within one calm h = subst (λ (l : List Record). AreFound records l lines) (sym (take_more records i d within)) (found_same records (take i records) lines (get_or records i d) one (Contains-get_or records i d within) calm h)
 
-pub found_free : (records : List Record) (lines : List ℕ) (i : ℕ) (d : Record) → i < length records → HasOneEach records → (get_or records i d).line % 64 ≢ 0 → AreFound records (take i records) lines → AreFound records (take (i + 1) records) lines
-found_free records lines i d within one free h = found_same_at records lines i d within one (λ entries summary conflict. free (conflict_aligned entries (get_or records i d).line conflict)) h
-
-pub found_calm : (records : List Record) (lines : List ℕ) (i : ℕ) (d : Record) → i < length records → HasOneEach records → ((entries : List Entry) → IsSummaryOf (get_or records i d).summary entries (get_or records i d).line → IsConflictLine entries (get_or records i d).line → ⊥) → AreFound records (take i records) lines → AreFound records (take (i + 1) records) lines
-found_calm records lines i d within one calm h = found_same_at records lines i d within one (λ entries summary conflict. calm entries (summary (conflict_aligned entries (get_or records i d).line conflict)) conflict) h
+pub found_calm : (records : List Record) (lines : List ℕ) (i : ℕ) (d : Record) → i < length records → HasOneEach records
+    → ((entries : List Entry) → (get_or records i d).line % 64 ≡ 0 → IsSummaryOf (get_or records i d).summary entries (get_or records i d).line
+    → IsConflictLine entries (get_or records i d).line → ⊥)
+    → AreFound records (take i records) lines → AreFound records (take (i + 1) records) lines
+found_calm records lines i d within one calm h =
+    found_same_at records lines i d within one (λ entries summary conflict.
+    let aligned = conflict_aligned entries (get_or records i d).line conflict in
+    calm entries aligned (summary aligned) conflict) h
 
 -- the lines found, sorted, each once
 pub all_found : (records : List Record) (found sorted lines : List ℕ) → IsPermutation found sorted → IsSorted nat_cmp sorted → lines ≡ dedup eqb sorted → AreFound records records found → (entries : List Entry) → StandsFor records entries → AreConflictLines entries lines

@@ -8,9 +8,11 @@ use Rattle.cm_mtrace.specs.declared.item.Entry.{Entry}
 use Rattle.cm_mtrace.specs.declared.item.Who.{Who}
 use Rattle.cm_mtrace.specs.declared.item.Who.TheVariants.{Other}
 use Rattle.cm_mtrace.specs.declared.item.Kind.{Kind}
-use Rattle.cm_judge.specs.declared.table.Record.{Record}
+use Rattle.cm_judge.specs.declared.slots.Record.{Record}
 use Rattle.cm_judge.specs.Judge.{KeepLine, StandsFor}
 use Rattle.cm_judge.specs.Summary.{cores_of, IsAccess, Touches}
+use Rattle.cm_judge.specs.declared.line.Lines.{Lines}
+use Rattle.cm_judge.specs.inner.Table.{AreLinesOf, Notes}
 use Rattle.cm_judge.proofs.Keeps.{Any-more}
 
 -- the line is one of the first so many
@@ -30,19 +32,17 @@ noted_none records first e =
     }
 
 pub noted_more : (before now after : List Record) (first k here : ℕ) (e : Entry) → here ≡ first + 64 * k
-    → ((entries : List Entry) → KeepLine now entries here → KeepLine after (entries ++ e ∷ []) here)
-    → ((entries : List Entry) (other : ℕ) → other % 64 ≡ 0 → other ≢ here → KeepLine now entries other → KeepLine after entries other)
-    → IsNoted before now first k e → IsNoted before after first (k + 1) e
-noted_more before now after first k here e is at_here elsewhere h =
+    → Notes now after here e → IsNoted before now first k e → IsNoted before after first (k + 1) e
+noted_more before now after first k here e is notes h =
     record {
       done = λ entries line aligned one b. elim (cases_lt one.0 k) [
-        | inl below ↦ elsewhere (entries ++ e ∷ []) line aligned (λ same. omega (arith, same, is, one.2, below)) (h.done entries line aligned (one.0, below, one.2) b)
+        | inl below ↦ notes.elsewhere (entries ++ e ∷ []) line aligned (λ same. omega (arith, same, is, one.2, below)) (h.done entries line aligned (one.0, below, one.2) b)
         | inr above ↦
             let same : here ≡ line = omega (arith, is, one.1, one.2, above) in
             let b_here : KeepLine before entries here = subst (λ n. KeepLine before entries n) (sym same) b in
-            subst (λ n. KeepLine after (entries ++ e ∷ []) n) same (at_here entries (h.ahead entries here (ap (λ n. n % 64) same ∙ aligned) (λ o. omega (arith, is, o.1, o.2)) b_here))
+            subst (λ n. KeepLine after (entries ++ e ∷ []) n) same (notes.here entries (h.ahead entries here (ap (λ n. n % 64) same ∙ aligned) (λ o. omega (arith, is, o.1, o.2)) b_here))
       ];
-      ahead = λ entries line aligned not b. elsewhere entries line aligned (λ same. not (k, omega arith, same ∙ is)) (h.ahead entries line aligned (λ o. not (o.0, omega (arith, o.1), o.2)) b);
+      ahead = λ entries line aligned not b. notes.elsewhere entries line aligned (λ same. not (k, omega arith, same ∙ is)) (h.ahead entries line aligned (λ o. not (o.0, omega (arith, o.1), o.2)) b);
     }
 
 one_of : (first count line : ℕ) → IsOneOf first count line ⊎ (IsOneOf first count line → ⊥)
@@ -80,6 +80,13 @@ noted_all before after first count e lines h entries stands line aligned =
       | inl one ↦ h.done entries line aligned one (stands line aligned)
       | inr not ↦ Keep-untouched after entries e line (λ who kind core judged a. not ((lines line).0 a.covers)) (h.ahead entries line aligned not (stands line aligned))
     ]
+
+-- the only line of an access is noted
+pub noted_one : (before after : List Record) (e : Entry) (lines : Lines) → lines.count ≡ 1 → AreLinesOf e lines
+    → Notes before after lines.first e → (entries : List Entry) → StandsFor before entries → StandsFor after (entries ++ e ∷ [])
+noted_one before after e lines one are notes =
+    noted_all before after lines.first 1 e (subst (λ n. (line : ℕ) → Covers e line ↔ IsOneOf lines.first n line) one are)
+    (noted_more before before after lines.first 0 lines.first e (omega arith) notes (noted_none before lines.first e))
 
 -- an entry of neither call changes nothing
 pub stands_other : (records : List Record) (entries : List Entry) (e : Entry) → e.who ≡ Other → StandsFor records entries → StandsFor records (entries ++ e ∷ [])

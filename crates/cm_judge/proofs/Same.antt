@@ -4,8 +4,8 @@ use Rattle.std.specs.List.{Contains}
 use Rattle.std.proofs.Math.ListN.{set, length-set}
 use Rattle.std.proofs.lemmas.List.{take_more, get_or-set_same}
 use Rattle.std.proofs.lemmas.List.Elements.{Contains-append_left, Contains-push, Contains-push_cases}
-use Rattle.cm_judge.specs.declared.table.Record.{Record}
-use Rattle.cm_judge.specs.Table.{SameRecords}
+use Rattle.cm_judge.specs.declared.slots.Record.{Record}
+use Rattle.cm_judge.specs.inner.Table.{SameRecords}
 use Rattle.cm_judge.proofs.Keeps.{set_from, set_kept}
 
 one_more : (xs : List Record) (i : ℕ) (d q : Record) → i < length xs → Contains (take (i + 1) xs) q → Contains (take i xs) q ⊎ (q ≡ get_or xs i d)
@@ -43,5 +43,19 @@ Same-put before after i k d f within slot free h =
           | inr b ↦ inr b
         ]
         | inr same ↦ inl (subst (λ (x : Record). Contains (set after k r) x) (sym same) (k, omega (arith, slot, length-set after k r), get_or-set_same after k r r slot))
+      ];
+    }
+
+pub Same-push : (before after : List Record) (i : ℕ) (d : Record) → i < length before → SameRecords (take i before) after → SameRecords (take (i + 1) before) (after ++ get_or before i d ∷ [])
+Same-push before after i d within h =
+    let r = get_or before i d in
+    record {
+      from = λ q has. elim (Contains-push_cases after r q has) [
+        | inl old ↦ elim (h.from q old) [ inl was ↦ inl (still before i d q within was) | inr b ↦ inr b ]
+        | inr same ↦ inl (subst (λ (x : Record). Contains (take (i + 1) before) x) same (the_last before i d within))
+      ];
+      kept = λ q has. elim (one_more before i d q within has) [
+        | inl old ↦ elim (h.kept q old) [ inl now ↦ inl (Contains-append_left after (r ∷ []) q now) | inr b ↦ inr b ]
+        | inr same ↦ inl (subst (λ (x : Record). Contains (after ++ r ∷ []) x) (sym same) (Contains-push after r))
       ];
     }

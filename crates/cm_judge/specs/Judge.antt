@@ -4,7 +4,7 @@ use Rattle.cm_mtrace.specs.declared.item.Entry.{Entry}
 use Rattle.cm_mtrace.specs.declared.item.Who.{Who}
 use Rattle.cm_mtrace.specs.declared.item.Who.TheVariants.{Other}
 use Rattle.cm_mtrace.specs.declared.item.Kind.{Kind}
-use Rattle.cm_judge.specs.declared.table.Record.{Record}
+use Rattle.cm_judge.specs.declared.slots.Record.{Record}
 use Rattle.cm_judge.specs.Summary.{AreBoundsOf, cores_of, IsWithin, Touches}
 
 -- A line may have several records. For each mark and kind, the least and the greatest core of each are

@@ -1,4 +1,4 @@
 pub mod Conflicts
 pub mod Judge
 pub mod Summary
-pub mod Table
+pub mod inner

@@ -1,13 +1,13 @@
+//! A larger table.
 ghost use Rattle.std.specs.Prelude.{IfOk, IfSome};
-ghost use Rattle.cm_judge.specs.Table.{HasOneEach, SameRecords};
-ghost use Rattle.std.specs.Prelude.{IsTrue};
+ghost use Rattle.cm_judge.specs.inner.Table.{EachIsFound, SameRecords};
 
-use crate::table::{Place, Record, WINDOW, place_for};
+use crate::slots::{Place, Record, WINDOW, place_for};
 use cm_model::NoMemory;
 use std::alloc::Global;
 
 // The fewest slots that a line may have its first in.
-const LEAST: usize = 64;
+const LEAST: usize = 128;
 
 // How many slots a table has that is twice as large as one of so many.
 fn doubled(slots: usize) -> usize {
@@ -18,9 +18,14 @@ fn doubled(slots: usize) -> usize {
         .saturating_add(WINDOW - 1)
 }
 
+/// How many lines a table of so many slots has before it grows: three quarters of the slots.
+pub(crate) fn limit_of(slots: usize) -> usize {
+    slots.saturating_sub(WINDOW - 1) / 4 * 3
+}
+
 /// A table of twice the size with the same records, or `None` where one of them has no place in it.
 pub(crate) fn grown(alloc: Global, slots: &[Record]) -> Result<Option<Vec<Record>>, NoMemory>
-    ensures { IfOk result (λ table. IfSome table (λ new. SameRecords slots.now new.items)) }
+    ensures { IfOk result (λ table. IfSome table (λ new. SameRecords slots.now new.items × EachIsFound new.items)) }
 {
     let mut new = vec![in alloc; Record::free(); doubled(slots.len())]?;
     for slot in slots {
@@ -32,24 +37,4 @@ pub(crate) fn grown(alloc: Global, slots: &[Record]) -> Result<Option<Vec<Record
         }
     }
     Ok(Some(new))
-}
-
-/// Tells that no two slots have the same line.
-pub(crate) fn has_one_each(slots: &[Record]) -> bool
-    ensures { IsTrue result → HasOneEach slots.now }
-{
-    for k in 0..slots.len() {
-        let slot = &slots[k];
-        if slot.has_line() {
-            match place_for(slots, slot.line) {
-                Place::Held(held) => {
-                    if held != k {
-                        return false;
-                    }
-                }
-                Place::Free(_) | Place::Nowhere => return false,
-            }
-        }
-    }
-    true
 }

@@ -1,16 +1,17 @@
+//! The judge of a section.
 ghost use Rattle.std.specs.Prelude.{◌≡◌, ◌≢◌, ◌↔◌, [], ◌∷◌, ◌++◌, List, ℕ, ◌+◌, ◌*◌, ◌%◌, ◌<◌, ◌≤◌, All, IsTrue, false, IfOk, OnOk, OnErr, vec_len, vec_capacity};
-ghost use Rattle.cm_mtrace.specs.Lines.{Covers, IsInRange};
+ghost use Rattle.cm_mtrace.specs.Lines.{IsInRange};
 ghost use Rattle.cm_mtrace.specs.declared.item.Entry.{Entry};
 ghost use Rattle.cm_mtrace.specs.declared.item.Who.TheVariants.{Other};
 ghost use Rattle.cm_judge.specs.Conflicts.{AreConflictLines};
 ghost use Rattle.cm_judge.specs.Judge.{StandsFor};
-ghost use Rattle.cm_judge.specs.Table.{KeepWhat, SameRecords};
-ghost use Rattle.cm_judge.specs.declared.table.Record.{Record};
+ghost use Rattle.cm_judge.specs.inner.Table.{AreLinesOf, KeepWhat};
+ghost use Rattle.cm_judge.specs.declared.slots.Record.{Record};
 
-use crate::grow::{grown, has_one_each};
 use crate::line::{Lines, lines_of};
 use crate::merge::{conflict_lines, merged};
-use crate::table::{Place, Record, note, place_for};
+use crate::slots::Record;
+use crate::table::Table;
 use cm_model::{List, NoMemory};
 use cm_mtrace::{Entry, Who};
 use std::alloc::Global;
@@ -19,68 +20,33 @@ use std::marker::Model;
 // How many records spill before those of one line are put together.
 const SPILL: usize = 1024;
 
-// Lets the table grow where it holds as many lines as it should.
-fn make_room(
-    alloc: Global,
-    slots: &mut Vec<Record>,
-    held: usize,
-    limit: &mut usize,
-) -> Result<(), NoMemory>
-    ensures ok { OnOk result (SameRecords slots.old.items slots.new.items) }
-    ensures err { OnErr result (slots.new.items ≡ slots.old.items) }
-{
-    if held < *limit {
-        return Ok(());
-    }
-    match grown(alloc, slots.as_slice())? {
-        Some(larger) => {
-            *slots = larger;
-            *limit = slots.len() / 2;
-        }
-        None => *limit = held.saturating_mul(2),
-    }
-    Ok(())
-}
-
 // Adds an access to what is kept of each of its lines.
-fn note_lines(
-    slots: &mut [Record],
-    spill: &mut Vec<Record>,
-    held: &mut usize,
-    lines: Lines,
-    e: &Entry,
-)
+fn note_lines(table: &mut Table, spill: &mut Vec<Record>, lines: Lines, e: &Entry)
     requires judged { e.now.who ≢ Other }
-    requires lines { (line : ℕ) → Covers e.now line ↔ ((k : ℕ) × (k < lines.count) × (line ≡ lines.first + 64 * k)) }
+    requires lines { AreLinesOf e.now lines }
     requires range { IsInRange e.now }
     requires room { vec_len spill.old + lines.count ≤ vec_capacity spill.old }
-    ensures { (entries : List Entry) → StandsFor (slots.old ++ spill.old.items) entries → StandsFor (slots.new ++ spill.new.items) (entries ++ e.now ∷ []) }
+    ensures { (entries : List Entry) → StandsFor (table.old ++ spill.old.items) entries → StandsFor (table.new ++ spill.new.items) (entries ++ e.now ∷ []) }
 {
     for k in 0..lines.count {
         let line = lines.first + 64 * u64::from(k);
-        note(slots, spill, held, line, e);
+        table.note_or_spill(spill, line, e);
     }
 }
 
-// Adds an access of one line to what is kept of it, where the table has that line. This is what most
-// accesses are.
+// Adds an access of one line to what is kept of it, where the table has room for that line. This is what
+// most accesses are.
 #[inline(always)]
-fn note_known(slots: &mut [Record], lines: Lines, e: &Entry) -> bool
+fn note_one(table: &mut Table, lines: Lines, e: &Entry) -> bool
     requires judged { e.now.who ≢ Other }
-    requires lines { (line : ℕ) → Covers e.now line ↔ ((k : ℕ) × (k < lines.count) × (line ≡ lines.first + 64 * k)) }
-    ensures known { IsTrue result → (spill : List Record) (entries : List Entry) → StandsFor (slots.old ++ spill) entries → StandsFor (slots.new ++ spill) (entries ++ e.now ∷ []) }
-    ensures unknown { result ≡ false → slots.new ≡ slots.old }
+    requires lines { AreLinesOf e.now lines }
+    ensures noted { IsTrue result → (spill : List Record) (entries : List Entry) → StandsFor (table.old ++ spill) entries → StandsFor (table.new ++ spill) (entries ++ e.now ∷ []) }
+    ensures none { result ≡ false → table.new ≡ table.old }
 {
     if lines.count != 1 {
         return false;
     }
-    match place_for(slots, lines.first) {
-        Place::Held(k) => {
-            slots[k].summary.add(e);
-            true
-        }
-        Place::Free(_) | Place::Nowhere => false,
-    }
+    table.note(lines.first, e)
 }
 
 // Puts the records of one line together where many have spilled.
@@ -98,60 +64,37 @@ fn trim(alloc: Global, spill: &mut Vec<Record>, limit: &mut usize)
     *limit = spill.len().saturating_mul(2).saturating_add(SPILL);
 }
 
-// The lines in conflict. Records are put together only where a line may have several.
-fn conflicts(alloc: Global, slots: &[Record], spill: &[Record]) -> Result<Vec<u64>, NoMemory>
-    ensures { IfOk result (λ lines. (entries : List Entry) → StandsFor (slots.now ++ spill.now) entries → AreConflictLines entries lines.items) }
+// The lines in conflict. Records are put together only where some have spilled.
+fn conflicts(alloc: Global, table: &Table, spill: &[Record]) -> Result<Vec<u64>, NoMemory>
+    ensures { IfOk result (λ lines. (entries : List Entry) → StandsFor (table.now ++ spill.now) entries → AreConflictLines entries lines.items) }
 {
-    if spill.is_empty() && has_one_each(slots) {
-        return conflict_lines(alloc, slots);
+    if spill.is_empty() {
+        return table.conflicts(alloc);
     }
-    let mut records = Vec::from_slice(alloc, slots)?;
+    let mut records = table.records(alloc)?;
     records.extend_from_slice(spill)?;
     let records = merged(alloc, records)?;
     conflict_lines(alloc, records.as_slice())
-}
-
-fn free_all(slots: &mut [Record])
-    ensures { All (λ (r : Record). r.line % 64 ≢ 0) slots.new }
-{
-    for slot in slots.iter_mut() {
-        *slot = Record::free();
-    }
-}
-
-// Empties the table, and gives it back where it is much larger than what it held.
-fn clear(alloc: Global, slots: &mut Vec<Record>, held: usize, limit: &mut usize)
-    ensures { All (λ (r : Record). r.line % 64 ≢ 0) slots.new.items }
-{
-    if slots.len() / 16 > held.saturating_add(64) {
-        *slots = Vec::new(alloc);
-        *limit = 0;
-    } else {
-        free_all(slots.as_mut_slice());
-    }
 }
 
 /// Collects the accesses of a section.
 #[derive(Debug, Drop)]
 pub struct Judge {
     alloc: Global,
-    // A hash table of lines.
-    slots: Vec<Record>,
+    // The lines that have a slot.
+    table: Table,
     // Accesses to lines that found no slot.
     spill: Vec<Record>,
-    // How many slots have a line, and how many may before the table grows.
-    held: usize,
-    limit: usize,
     spill_limit: usize,
 }
 
 impl Model for Judge {
     ghost use Rattle.std.specs.Prelude.{List, ◌++◌};
-    ghost use Rattle.cm_judge.specs.declared.table.Record.{Record};
+    ghost use Rattle.cm_judge.specs.declared.slots.Record.{Record};
 
     ghost Value = { List Record };
 
-    ghost view = { λ j. j.slots.items ++ j.spill.items };
+    ghost view = { λ j. j.table ++ j.spill.items };
 }
 
 impl Judge {
@@ -161,10 +104,8 @@ impl Judge {
     {
         Judge {
             alloc,
-            slots: Vec::new(alloc),
+            table: Table::new(alloc),
             spill: Vec::new(alloc),
-            held: 0,
-            limit: 0,
             spill_limit: SPILL,
         }
     }
@@ -179,7 +120,7 @@ impl Judge {
             return Ok(());
         }
         let lines = lines_of(e);
-        if note_known(self.slots.as_mut_slice(), lines, e) {
+        if note_one(&mut self.table, lines, e) {
             return Ok(());
         }
         self.add_lines(lines, e)
@@ -188,20 +129,14 @@ impl Judge {
     #[inline(never)]
     fn add_lines(&mut self, lines: Lines, e: &Entry) -> Result<(), NoMemory>
         requires judged { e.now.who ≢ Other }
-        requires lines { (line : ℕ) → Covers e.now line ↔ ((k : ℕ) × (k < lines.count) × (line ≡ lines.first + 64 * k)) }
+        requires lines { AreLinesOf e.now lines }
         requires range { IsInRange e.now }
         ensures ok { OnOk result ((entries : List Entry) → StandsFor self.old entries → StandsFor self.new (entries ++ e.now ∷ [])) }
         ensures err { OnErr result (self.new ≡ self.old) }
     {
         self.spill.reserve(usize::from(lines.count))?;
-        make_room(self.alloc, &mut self.slots, self.held, &mut self.limit)?;
-        note_lines(
-            self.slots.as_mut_slice(),
-            &mut self.spill,
-            &mut self.held,
-            lines,
-            e,
-        );
+        self.table.make_room(self.alloc, lines)?;
+        note_lines(&mut self.table, &mut self.spill, lines, e);
         trim(self.alloc, &mut self.spill, &mut self.spill_limit);
         Ok(())
     }
@@ -212,10 +147,9 @@ impl Judge {
         ensures emptied { OnOk result (StandsFor self.new []) }
         ensures err { OnErr result (self.new ≡ self.old) }
     {
-        let lines = conflicts(self.alloc, self.slots.as_slice(), self.spill.as_slice())?;
-        clear(self.alloc, &mut self.slots, self.held, &mut self.limit);
+        let lines = conflicts(self.alloc, &self.table, self.spill.as_slice())?;
+        self.table.clear(self.alloc);
         self.spill.clear();
-        self.held = 0;
         Ok(List::from_vec(lines))
     }
 }

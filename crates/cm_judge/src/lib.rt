@@ -5,6 +5,7 @@ mod grow;
 mod judge;
 mod line;
 mod merge;
+mod slots;
 mod summary;
 mod table;
 

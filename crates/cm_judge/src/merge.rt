@@ -1,12 +1,13 @@
+//! Records of one line put together, and the lines in conflict.
 ghost use Rattle.std.specs.Prelude.{◌≡◌, ◌++◌, ◌∷◌, [], List, ℕ, IfOk};
-ghost use Rattle.cm_judge.specs.declared.table.Record.{Record};
+ghost use Rattle.cm_judge.specs.declared.slots.Record.{Record};
 ghost use Rattle.cm_mtrace.specs.declared.item.Entry.{Entry};
 ghost use Rattle.std.specs.List.Sorted.{IsNonDecreasingBy};
 ghost use Rattle.cm_judge.specs.Conflicts.{AreConflictLines};
 ghost use Rattle.cm_judge.specs.Judge.{StandsFor};
-ghost use Rattle.cm_judge.specs.Table.{HasOneEach, KeepWhat};
+ghost use Rattle.cm_judge.specs.inner.Table.{HasOneEach, KeepWhat};
 
-use crate::table::Record;
+use crate::slots::Record;
 use cm_model::NoMemory;
 use std::alloc::Global;
 
@@ -49,10 +50,8 @@ pub(crate) fn conflict_lines(alloc: Global, records: &[Record]) -> Result<Vec<u6
 {
     let mut lines = Vec::new(alloc);
     for record in records {
-        if record.has_line() {
-            if record.summary.is_conflict() {
-                lines.push(record.line)?;
-            }
+        if record.is_conflict() {
+            lines.push(record.line)?;
         }
     }
     lines.sort_unstable();

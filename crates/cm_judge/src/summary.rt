@@ -1,7 +1,9 @@
+//! What is kept of the accesses to a cache line.
 ghost use Rattle.std.specs.Prelude.{◌≡◌, ◌≢◌, List, ◌↔◌, ◌⊎◌, ◌<◌, ◌≤◌, ℕ, IsTrue, min, max};
 ghost use Rattle.cm_mtrace.specs.declared.item.Who.{Who};
 ghost use Rattle.cm_mtrace.specs.declared.item.Who.TheVariants.{A, B, Other};
 ghost use Rattle.cm_mtrace.specs.declared.item.Kind.{Kind};
+ghost use Rattle.cm_mtrace.specs.declared.item.Kind.TheVariants.{Read, Write};
 ghost use Rattle.cm_judge.specs.Conflicts.{IsConflictLine};
 ghost use Rattle.cm_mtrace.specs.declared.item.Entry.{Entry};
 ghost use Rattle.cm_judge.specs.Summary.{cores_of, no_cores, place, union_of, with_core, Differ, IsSummaryOf};
@@ -37,8 +39,8 @@ impl Cores {
         ensures { IsTrue result ↔ Differ self other }
     {
         !self.is_empty()
-            && !other.is_empty()
-            && (self.least != other.greatest || self.greatest != other.least)
+            & !other.is_empty()
+            & ((self.least != other.greatest) | (self.greatest != other.least))
     }
 
     fn union(self, other: Cores) -> Cores
@@ -126,13 +128,23 @@ impl LineSummary {
         self.cores(Who::A, kind).differ(self.cores(Who::B, other))
     }
 
+    // A write of one call and an access of the other were made by different cores. All three are asked, so
+    // that it compiles to no branch.
+    fn some_differ(&self) -> bool
+        ensures { IsTrue result ↔ (Differ (cores_of self.now A Write) (cores_of self.now B Write)
+            ⊎ (Differ (cores_of self.now A Write) (cores_of self.now B Read)
+            ⊎ Differ (cores_of self.now A Read) (cores_of self.now B Write))) }
+    {
+        self.differ(Kind::Write, Kind::Write)
+            | self.differ(Kind::Write, Kind::Read)
+            | self.differ(Kind::Read, Kind::Write)
+    }
+
     /// A write of one call and an access of the other were made by different cores.
     pub(crate) fn is_conflict(&self) -> bool
         ensures { (entries : List Entry) (line : ℕ) → IsSummaryOf self.now entries line → (IsTrue result ↔ IsConflictLine entries line) }
     {
-        self.differ(Kind::Write, Kind::Write)
-            || self.differ(Kind::Write, Kind::Read)
-            || self.differ(Kind::Read, Kind::Write)
+        self.some_differ()
     }
 
     /// Adds an access to the line.

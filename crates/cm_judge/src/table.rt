@@ -1,122 +1,211 @@
-ghost use Rattle.std.specs.Prelude.{◌≡◌, ◌≢◌, ◌⊎◌, ◌+◌, ◌<◌, ◌≤◌, ◌++◌, ◌∷◌, [], List, ℕ, length, ◌%◌, ◌↔◌, IsTrue, vec_len, vec_capacity};
+//! A hash table of the lines of a section.
+ghost use Rattle.std.specs.Prelude.{◌≡◌, ◌≢◌, ◌+◌, ◌≤◌, ◌<◌, ◌%◌, [], ◌++◌, List, All, IsTrue, false, IfOk, OnOk, OnErr, slice_set, vec_len, vec_capacity};
 ghost use Rattle.cm_mtrace.specs.Lines.{Covers};
 ghost use Rattle.cm_mtrace.specs.declared.item.Entry.{Entry};
-ghost use Rattle.cm_mtrace.specs.declared.item.Kind.{Kind};
-ghost use Rattle.cm_mtrace.specs.declared.item.Who.{Who};
 ghost use Rattle.cm_mtrace.specs.declared.item.Who.TheVariants.{Other};
-ghost use Rattle.cm_judge.specs.Judge.{KeepLine};
-ghost use Rattle.cm_judge.specs.Summary.{cores_of, no_cores, with_core};
-ghost use Rattle.cm_judge.specs.Table.{first_slot, IsPlaceFor};
+ghost use Rattle.cm_judge.specs.Conflicts.{AreConflictLines};
+ghost use Rattle.cm_judge.specs.Judge.{StandsFor};
+ghost use Rattle.cm_judge.specs.declared.slots.Record.{Record};
+ghost use Rattle.cm_judge.specs.inner.Table.{Notes, SameRecords};
 
-use crate::summary::LineSummary;
+use crate::grow::{grown, limit_of};
+use crate::line::Lines;
+use crate::merge::conflict_lines;
+use crate::slots::{Place, Record, first_record, place_for};
+use cm_model::NoMemory;
 use cm_mtrace::Entry;
+use std::alloc::Global;
+use std::marker::Model;
 
-/// A line, and what is kept of the accesses to it.
-#[derive(Clone, Copy, Debug, PartialEq, Eq)]
-pub struct Record {
-    pub(crate) line: u64,
-    pub(crate) summary: LineSummary,
+/// A hash table of lines. Contracts see its slots.
+#[derive(Debug, Drop)]
+pub(crate) struct Table {
+    slots: Vec<Record>,
+    // How many slots have a line, and how many may before the table grows.
+    held: usize,
+    limit: usize,
 }
 
-impl Record {
-    /// A record of no line: lines are multiples of 64.
-    pub(crate) fn free() -> Record
-        ensures { result.line % 64 ≢ 0 }
+impl Model for Table {
+    ghost use Rattle.std.specs.Prelude.{List};
+    ghost use Rattle.cm_judge.specs.declared.slots.Record.{Record};
+    ghost use Rattle.cm_judge.specs.inner.Table.{EachIsFound};
+
+    ghost Value = { List Record };
+
+    ghost view = { λ t. t.slots.items };
+
+    ghost invariant = { λ t. EachIsFound t.slots.items };
+}
+
+fn free_all(slots: &mut [Record])
+    ensures { All (λ (r : Record). r.line % 64 ≢ 0) slots.new }
+{
+    for slot in slots.iter_mut() {
+        *slot = Record::free();
+    }
+}
+
+// Whether one of the lines has no place.
+fn some_has_none(slots: &[Record], lines: Lines) -> bool {
+    for k in 0..lines.count {
+        let line = lines.first.saturating_add(64 * u64::from(k));
+        if let Place::Nowhere = place_for(slots, line) {
+            return true;
+        }
+    }
+    false
+}
+
+impl Table {
+    ghost use Rattle.cm_judge.specs.inner.Table.{IsFreeFor, IsPlaceFor};
+
+    /// A table of no slots.
+    pub(crate) fn new(alloc: Global) -> Table
+        ensures { result ≡ [] }
     {
-        Record {
-            line: u64::MAX,
-            summary: LineSummary::blank(),
+        Table {
+            slots: Vec::new(alloc),
+            held: 0,
+            limit: 0,
         }
     }
 
-    pub(crate) fn has_line(&self) -> bool
-        ensures { IsTrue result ↔ (self.now.line % 64 ≡ 0) }
+    #[inline(always)]
+    fn place(&self, line: u64) -> Place
+        ensures { IsPlaceFor self.now line result }
     {
-        self.line % 64 == 0
+        place_for(self.slots.as_slice(), line)
     }
-}
 
-/// Where a line has its record, or may get it.
-#[derive(Clone, Copy, Debug)]
-pub(crate) enum Place {
-    Held(usize),
-    Free(usize),
-    Nowhere,
-}
-
-// How many slots may have a line: the one that its address gives, and those behind it.
-pub(crate) const WINDOW: usize = 32;
-
-// The slots in which a line may be first are fewer than this.
-const MOST: u64 = 0xffff_ffff;
-
-#[tactic(auto, unfolding(crate::specs::Table::first_slot))]
-fn first_slot_of(line: u64, slots: usize) -> usize
-    requires { WINDOW ≤ slots }
-    ensures value { result ≡ first_slot line slots }
-    ensures within { result + WINDOW ≤ slots }
-{
-    let hash = (line / 64).wrapping_mul(0x9e37_79b9_7f4a_7c15) >> 32;
-    let firsts = (slots - WINDOW) as u64;
-    ((hash * firsts.min(MOST)) >> 32) as usize
-}
-
-pub(crate) fn place_for(slots: &[Record], line: u64) -> Place
-    ensures { IsPlaceFor slots.now line result }
-{
-    if slots.len() < WINDOW {
-        return Place::Nowhere;
+    // Puts a record in a free slot.
+    #[inline(always)]
+    fn fill(&mut self, k: usize, filled: Record)
+        requires { IsFreeFor self.old filled.line k }
+        ensures { self.new ≡ slice_set self.old k filled }
+    {
+        self.slots[k] = filled;
+        self.held = self.held.saturating_add(1);
     }
-    let first = first_slot_of(line, slots.len());
-    for k in first..first + WINDOW {
-        let slot = &slots[k];
-        if slot.line == line {
-            return Place::Held(k);
-        }
-        if !slot.has_line() {
-            return Place::Free(k);
+
+    // Adds an access to what is kept of the line, where the line has a slot, or may get a free one while the
+    // table has at most so many lines.
+    #[inline(always)]
+    fn note_within(&mut self, line: u64, e: &Entry, most: usize) -> bool
+        requires judged { e.now.who ≢ Other }
+        requires covered { Covers e.now line }
+        ensures noted { IsTrue result → (rest : List Record) → Notes (self.old ++ rest) (self.new ++ rest) line e.now }
+        ensures none { result ≡ false → self.new ≡ self.old }
+    {
+        match self.place(line) {
+            Place::Held(k) => {
+                self.slots[k].summary.add(e);
+                true
+            }
+            Place::Free(k) => {
+                if self.held >= most {
+                    return false;
+                }
+                self.fill(k, first_record(line, e));
+                true
+            }
+            Place::Nowhere => false,
         }
     }
-    Place::Nowhere
-}
 
-fn first_record(line: u64, e: &Entry) -> Record
-    requires { e.now.who ≢ Other }
-    ensures line { result.line ≡ line }
-    ensures own { cores_of result.summary e.now.who e.now.kind ≡ with_core no_cores e.now.core }
-    ensures others { (who : Who) (kind : Kind) → (who ≢ e.now.who) ⊎ (kind ≢ e.now.kind) → cores_of result.summary who kind ≡ no_cores }
-    ensures small { e.now.core ≤ 65535 }
-{
-    let mut summary = LineSummary::blank();
-    summary.add(e);
-    Record { line, summary }
-}
+    /// Adds an access to what is kept of the line, where the table has room for the line.
+    #[inline(always)]
+    pub(crate) fn note(&mut self, line: u64, e: &Entry) -> bool
+        requires judged { e.now.who ≢ Other }
+        requires covered { Covers e.now line }
+        ensures noted { IsTrue result → (rest : List Record) → Notes (self.old ++ rest) (self.new ++ rest) line e.now }
+        ensures none { result ≡ false → self.new ≡ self.old }
+    {
+        let most = self.limit;
+        self.note_within(line, e, most)
+    }
 
-/// Adds an access to what is kept of the line, and counts a slot that it fills.
-pub(crate) fn note(
-    slots: &mut [Record],
-    spill: &mut Vec<Record>,
-    held: &mut usize,
-    line: u64,
-    e: &Entry,
-)
-    requires judged { e.now.who ≢ Other }
-    requires covered { Covers e.now line }
-    requires room { vec_len spill.old < vec_capacity spill.old }
-    ensures here { (entries : List Entry) → KeepLine (slots.old ++ spill.old.items) entries line → KeepLine (slots.new ++ spill.new.items) (entries ++ e.now ∷ []) line }
-    ensures elsewhere { (entries : List Entry) (other : ℕ) → other % 64 ≡ 0 → other ≢ line → KeepLine (slots.old ++ spill.old.items) entries other → KeepLine (slots.new ++ spill.new.items) entries other }
-    ensures capacity { vec_capacity spill.old ≤ vec_capacity spill.new }
-    ensures one_more { vec_len spill.new ≤ vec_len spill.old + 1 }
-{
-    match place_for(slots, line) {
-        Place::Held(k) => slots[k].summary.add(e),
-        Place::Free(k) => {
-            slots[k] = first_record(line, e);
-            *held = held.saturating_add(1);
+    /// Adds an access to what is kept of the line. Where the line finds no place, its record spills.
+    pub(crate) fn note_or_spill(&mut self, spill: &mut Vec<Record>, line: u64, e: &Entry)
+        requires judged { e.now.who ≢ Other }
+        requires covered { Covers e.now line }
+        requires room { vec_len spill.old < vec_capacity spill.old }
+        ensures noted { Notes (self.old ++ spill.old.items) (self.new ++ spill.new.items) line e.now }
+        ensures capacity { vec_capacity spill.old ≤ vec_capacity spill.new }
+        ensures one_more { vec_len spill.new ≤ vec_len spill.old + 1 }
+    {
+        if self.note_within(line, e, usize::MAX) {
+            return;
         }
-        Place::Nowhere => match spill.push(first_record(line, e)) {
+        match spill.push(first_record(line, e)) {
             Ok(()) => {}
             Err(_) => unreachable!(),
-        },
+        }
     }
+
+    // Whether the table should grow for some lines: it would have more than it should, or one of them finds
+    // no place though the table is not nearly empty.
+    fn is_short(&self, lines: Lines) -> bool {
+        if self.held.saturating_add(usize::from(lines.count)) > self.limit {
+            return true;
+        }
+        self.held > self.limit / 4 && some_has_none(self.slots.as_slice(), lines)
+    }
+
+    /// Lets the table grow where it is short of room for some lines.
+    pub(crate) fn make_room(&mut self, alloc: Global, lines: Lines) -> Result<(), NoMemory>
+        ensures ok { OnOk result (SameRecords self.old self.new) }
+        ensures err { OnErr result (self.new ≡ self.old) }
+    {
+        if !self.is_short(lines) {
+            return Ok(());
+        }
+        match grown(alloc, self.slots.as_slice())? {
+            Some(larger) => {
+                self.slots = larger;
+                self.limit = limit_of(self.slots.len());
+            }
+            None => self.limit = self.held.saturating_mul(8),
+        }
+        Ok(())
+    }
+
+    /// The lines in conflict, ascending, each once.
+    pub(crate) fn conflicts(&self, alloc: Global) -> Result<Vec<u64>, NoMemory>
+        ensures { IfOk result (λ lines. (entries : List Entry) → StandsFor self.now entries → AreConflictLines entries lines.items) }
+    {
+        conflict_lines(alloc, self.slots.as_slice())
+    }
+
+    /// The records of the slots that have a line.
+    pub(crate) fn records(&self, alloc: Global) -> Result<Vec<Record>, NoMemory>
+        ensures { IfOk result (λ records. SameRecords self.now records.items) }
+    {
+        lined(alloc, self.slots.as_slice())
+    }
+
+    /// Empties the table, and gives it back where it is much larger than what it held.
+    pub(crate) fn clear(&mut self, alloc: Global)
+        ensures { All (λ (r : Record). r.line % 64 ≢ 0) self.new }
+    {
+        if self.slots.len() / 16 > self.held.saturating_add(64) {
+            self.slots = Vec::new(alloc);
+            self.limit = 0;
+        } else {
+            free_all(self.slots.as_mut_slice());
+        }
+        self.held = 0;
+    }
+}
+
+fn lined(alloc: Global, slots: &[Record]) -> Result<Vec<Record>, NoMemory>
+    ensures { IfOk result (λ records. SameRecords slots.now records.items) }
+{
+    let mut records = Vec::new(alloc);
+    for slot in slots {
+        if slot.has_line() {
+            records.push(*slot)?;
+        }
+    }
+    Ok(records)
 }

@@ -1,21 +1,21 @@
 use Rattle.std.proofs.Common.{List, eqb, subst}
-use Rattle.std.proofs.lemmas.Bool.{iff_false}
 use Rattle.std.proofs.lemmas.List.{take_all}
 use Rattle.std.proofs.lemmas.List.Filters.{dedup_is}
-use Rattle.cm_judge.specs.declared.table.Record.{Record}
-use Rattle.cm_judge.proofs.Merges.{all_found, AreFound, found_calm, found_free, found_more_at}
+use Rattle.cm_judge.specs.declared.slots.Record.{Record}
+use Rattle.cm_judge.proofs.Merges.{all_found, AreFound, found_calm, found_more_at}
 use Rattle.cm_judge.proofs.merge.conflict_lines.Goals as goal
-use Rattle.cm_judge.proofs.merge.conflict_lines.Goals.{then-has_line+then-is_conflict+in_ok-push, then-has_line+else-is_conflict, else-has_line}
+use Rattle.cm_judge.proofs.merge.conflict_lines.Goals.{then-is_conflict+in_ok-push, else-is_conflict}
 
 pub loop-record-preserved : goal.loop-record-preserved
 loop-record-preserved c =
     let records = c.args.records.now in
     let lines = c.loop-record.lines.items in
     let i = c.loop-record.record-index in
-    elim c.if-has_line.branch [
-      | then-has_line+then-is_conflict+in_ok-push w ↦ rw (w.lines-is, w.in_ok-push.ensures.items) (found_more_at records lines i _ c.loop-record-test.true c.requires (c.has_line.ensures.0 w.if-has_line.true) (λ entries summary. (w.is_conflict.ensures entries _ summary).0 w.if-is_conflict.true) c.loop-record.invariant)
-      | then-has_line+else-is_conflict w ↦ rw w.lines-is (found_calm records lines i _ c.loop-record-test.true c.requires (λ entries summary. iff_false (w.is_conflict.ensures entries _ summary) w.if-is_conflict.false) c.loop-record.invariant)
-      | else-has_line w ↦ rw w.lines-is (found_free records lines i _ c.loop-record-test.true c.requires (iff_false c.has_line.ensures w.if-has_line.false) c.loop-record.invariant)
+    elim c.if-is_conflict.branch [
+      | then-is_conflict+in_ok-push w ↦
+          let yes = c.is_conflict.ensures.yes w.if-is_conflict.true in
+          rw (w.lines-is, w.in_ok-push.ensures.items) (found_more_at records lines i _ c.loop-record-test.true c.requires yes.0 yes.1 c.loop-record.invariant)
+      | else-is_conflict w ↦ rw w.lines-is (found_calm records lines i _ c.loop-record-test.true c.requires (c.is_conflict.ensures.no w.if-is_conflict.false) c.loop-record.invariant)
     ]
 
 pub returns : goal.returns

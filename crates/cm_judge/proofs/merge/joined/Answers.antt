@@ -3,7 +3,7 @@ use Rattle.std.proofs.lemmas.List.{drop_more}
 use Rattle.cm_mtrace.specs.declared.item.Who.{Who}
 use Rattle.cm_mtrace.specs.declared.item.Who.TheVariants.{Other}
 use Rattle.cm_mtrace.specs.declared.item.Kind.{Kind}
-use Rattle.cm_judge.specs.declared.table.Record.{Record}
+use Rattle.cm_judge.specs.declared.slots.Record.{Record}
 use Rattle.cm_judge.specs.declared.summary.LineSummary.{LineSummary}
 use Rattle.cm_judge.specs.Summary.{cores_of, union_of}
 use Rattle.cm_judge.proofs.Merges.{IsJoined, join_first, join_push, join_union, one_more_each}

@@ -1,6 +1,6 @@
 use Rattle.std.proofs.lemmas.List.Sorted.{answers_always, IsNonDecreasingBy-from_sort}
 use Rattle.std.proofs.Common.{rules, IfOk, Ok, Err, Result}
-use Rattle.cm_judge.specs.declared.table.Record.{Record}
+use Rattle.cm_judge.specs.declared.slots.Record.{Record}
 use Rattle.cm_judge.proofs.Merges.{KeepWhat-permutation}
 use Rattle.cm_judge.proofs.merge.merged.Goals as goal
 

@@ -1,0 +1,2 @@
+-- What only inner contracts use.
+pub mod Table

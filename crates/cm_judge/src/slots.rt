@@ -1,0 +1,105 @@
+//! The slots of a table of lines.
+ghost use Rattle.std.specs.Prelude.{◌≡◌, ◌≢◌, ◌⊎◌, ◌+◌, ◌≤◌, ◌%◌, ◌↔◌, List, IsTrue, false};
+ghost use Rattle.cm_mtrace.specs.declared.item.Entry.{Entry};
+ghost use Rattle.cm_mtrace.specs.declared.item.Kind.{Kind};
+ghost use Rattle.cm_mtrace.specs.declared.item.Who.{Who};
+ghost use Rattle.cm_mtrace.specs.declared.item.Who.TheVariants.{Other};
+ghost use Rattle.cm_judge.specs.Conflicts.{IsConflictLine};
+ghost use Rattle.cm_judge.specs.Summary.{cores_of, no_cores, with_core, IsSummaryOf};
+ghost use Rattle.cm_judge.specs.inner.Table.{first_slot, IsPlaceFor};
+
+use crate::summary::LineSummary;
+use cm_mtrace::Entry;
+
+/// A line, and what is kept of the accesses to it.
+#[derive(Clone, Copy, Debug, PartialEq, Eq)]
+pub struct Record {
+    pub(crate) line: u64,
+    pub(crate) summary: LineSummary,
+}
+
+impl Record {
+    /// A record of no line: lines are multiples of 64.
+    pub(crate) fn free() -> Record
+        ensures { result.line % 64 ≢ 0 }
+    {
+        Record {
+            line: u64::MAX,
+            summary: LineSummary::blank(),
+        }
+    }
+
+    pub(crate) fn has_line(&self) -> bool
+        ensures { IsTrue result ↔ (self.now.line % 64 ≡ 0) }
+    {
+        self.line % 64 == 0
+    }
+
+    /// The record is one of a line, and its accesses conflict there.
+    pub(crate) fn is_conflict(&self) -> bool
+        ensures yes { IsTrue result → (self.now.line % 64 ≡ 0) × ((entries : List Entry) → IsSummaryOf self.now.summary entries self.now.line → IsConflictLine entries self.now.line) }
+        ensures no { result ≡ false → (entries : List Entry) → self.now.line % 64 ≡ 0 → IsSummaryOf self.now.summary entries self.now.line → ¬ IsConflictLine entries self.now.line }
+    {
+        self.has_line() & self.summary.is_conflict()
+    }
+}
+
+/// Where a line has its record, or may get it.
+#[derive(Clone, Copy, Debug)]
+pub(crate) enum Place {
+    Held(usize),
+    Free(usize),
+    Nowhere,
+}
+
+// How many slots may have a line: the one that its address gives, and those behind it.
+pub(crate) const WINDOW: usize = 32;
+
+// The slots in which a line may be first are fewer than this.
+const MOST: u64 = 0xffff_ffff;
+
+#[tactic(auto, unfolding(crate::specs::inner::Table::first_slot))]
+fn first_slot_of(line: u64, slots: usize) -> usize
+    requires { WINDOW ≤ slots }
+    ensures value { result ≡ first_slot line slots }
+    ensures within { result + WINDOW ≤ slots }
+{
+    let hash = (line / 64).wrapping_mul(0x9e37_79b9_7f4a_7c15) >> 32;
+    let firsts = (slots - WINDOW) as u64;
+    ((hash * firsts.min(MOST)) >> 32) as usize
+}
+
+/// The slot that has the line, or is free for it.
+#[inline(always)]
+pub(crate) fn place_for(slots: &[Record], line: u64) -> Place
+    ensures { IsPlaceFor slots.now line result }
+{
+    if slots.len() < WINDOW {
+        return Place::Nowhere;
+    }
+    let first = first_slot_of(line, slots.len());
+    for k in first..first + WINDOW {
+        let slot = &slots[k];
+        if slot.line == line {
+            return Place::Held(k);
+        }
+        if !slot.has_line() {
+            return Place::Free(k);
+        }
+    }
+    Place::Nowhere
+}
+
+/// A record of the first access to a line.
+#[inline(always)]
+pub(crate) fn first_record(line: u64, e: &Entry) -> Record
+    requires { e.now.who ≢ Other }
+    ensures line { result.line ≡ line }
+    ensures own { cores_of result.summary e.now.who e.now.kind ≡ with_core no_cores e.now.core }
+    ensures others { (who : Who) (kind : Kind) → (who ≢ e.now.who) ⊎ (kind ≢ e.now.kind) → cores_of result.summary who kind ≡ no_cores }
+    ensures small { e.now.core ≤ 65535 }
+{
+    let mut summary = LineSummary::blank();
+    summary.add(e);
+    Record { line, summary }
+}
