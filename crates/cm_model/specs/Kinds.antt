@@ -1,5 +1,5 @@
 -- What an expression gives: a number, or a value of a type. No kind where it is not well typed.
-use Rattle.std.specs.Prelude.{ℕ, ◌+◌, ◌==◌, ltb, leb, Bool, true, false, not, ◌&&◌, ◌||◌, if◌then◌else◌, List, [], ◌∷◌, ◌++◌, map, length, slice_get, Option, Some, None, option_map}
+use Rattle.std.specs.Prelude.{ℕ, ◌==◌, ltb, leb, Bool, true, false, not, ◌&&◌, ◌||◌, if◌then◌else◌, List, [], ◌∷◌, length, slice_get, Option, Some, None, option_map}
 use Rattle.std.specs.List.{list_all}
 use Rattle.cm_model.specs.Limits.{is_number}
 use Rattle.cm_model.specs.Tables.{Tables}

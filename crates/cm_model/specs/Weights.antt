@@ -1,11 +1,10 @@
 -- How many nodes stand in an expression or statement, those of the called functions among them; and how
 -- many shifts stand one inside another.
-use Rattle.std.specs.Prelude.{ℕ, ◌+◌, max, leb, ℤ, Bool, true, false, ◌&&◌, List, [], ◌∷◌, ◌++◌, map, sum, slice_get, Option, Some, None}
-use Rattle.std.specs.List.{list_all}
+use Rattle.std.specs.Prelude.{ℕ, ◌+◌, max, ℤ, List, [], ◌∷◌, ◌++◌, map, sum, slice_get, Option, Some, None}
 use Rattle.cm_model.specs.Types.{or_else}
 use Rattle.cm_model.specs.declared.body.Call.{Call}
 use Rattle.cm_model.specs.declared.body.Expr.{Expr}
-use Rattle.cm_model.specs.declared.body.Expr.TheOpen.{Expr-F, SetField-F}
+use Rattle.cm_model.specs.declared.body.Expr.TheOpen.{Expr-F}
 use Rattle.cm_model.specs.declared.body.Expr.TheFolds.{fold-Expr}
 use Rattle.cm_model.specs.declared.body.Stmt.{Stmt}
 use Rattle.cm_model.specs.declared.body.Stmt.TheOpen.{Stmt-F}

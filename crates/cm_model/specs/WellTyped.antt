@@ -1,6 +1,6 @@
 -- When tables are those of a well typed model: the type rules and what the grammar gives, as far as they
 -- speak of numbers instead of names.
-use Rattle.std.specs.Prelude.{◌≡◌, ℕ, ◌+◌, ◌≤◌, leb, ℤ, int_le, Bool, true, false, not, ◌&&◌, List, [], ◌∷◌, ◌++◌, map, length, sum, codes, bytes_eq, Option, Some, None, IsTrue}
+use Rattle.std.specs.Prelude.{ℕ, ◌+◌, ◌≤◌, leb, int_le, Bool, true, false, not, ◌&&◌, List, [], ◌∷◌, map, length, sum, codes, bytes_eq, Option, Some, None, IsTrue}
 use Rattle.std.specs.List.{list_all}
 use Rattle.cm_model.specs.Limits.{declaration_limit, function_limit, call_limit, variant_limit, shift_limit}
 use Rattle.cm_model.specs.Limits.{parameters_width_limit, parameters_integer_limit, invariant_weight_limit, body_weight_limit}
@@ -17,7 +17,6 @@ use Rattle.cm_model.specs.declared.ty.Ty.TheVariants as form
 use Rattle.cm_model.specs.declared.ty.IntDecl.{IntDecl}
 use Rattle.cm_model.specs.declared.ty.EnumDecl.{EnumDecl}
 use Rattle.cm_model.specs.declared.ty.RecDecl.{RecDecl}
-use Rattle.cm_model.specs.declared.ty.Part.{Part}
 use Rattle.cm_model.specs.declared.body.StateDecl.{StateDecl}
 use Rattle.cm_model.specs.declared.body.Call.{Call}
 use Rattle.cm_model.specs.declared.body.Expr.{Expr}

@@ -1,3 +1,5 @@
+//! Expressions, statements, states, functions and calls of a model.
+
 use crate::{Boxed, List, Name, Part, Ty};
 
 /// The six comparisons.

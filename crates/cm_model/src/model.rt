@@ -1,3 +1,5 @@
+//! Checked models.
+
 ghost use Rattle.std.specs.Prelude.{◌≡◌, ℕ, ◌*◌, ◌+◌, ◌/◌, ◌<◌, ◌≤◌, length, slice_get, Some};
 ghost use Rattle.cm_model.specs.Tables.{Tables, tables};
 ghost use Rattle.cm_model.specs.WellTyped.{IsWellTyped};

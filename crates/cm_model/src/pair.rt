@@ -1,3 +1,5 @@
+//! Pairs of calls, and the limits that a pair may pass.
+
 /// Two calls by their numbers, `a` at most `b`.
 #[derive(Clone, Copy, Debug, PartialEq, Eq)]
 pub struct Pair {

@@ -1,3 +1,5 @@
+//! Places in a text.
+
 /// A place in a text.
 #[derive(Clone, Copy, Debug, PartialEq, Eq)]
 pub struct Place {

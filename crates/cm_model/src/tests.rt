@@ -1,3 +1,5 @@
+//! Each call with ample memory, and the numbers of pairs.
+
 use super::*;
 use std::test::Fail;
 

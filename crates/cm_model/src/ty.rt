@@ -1,3 +1,5 @@
+//! Types, and the declarations of types.
+
 use crate::{Boxed, List, Name};
 
 /// A type of values. The numbers are those of the declarations, each kind counted from 0.

@@ -1,3 +1,5 @@
+//! Variables of the decision procedure.
+
 /// A variable that stands for an element of a sort, by its number.
 #[derive(Clone, Copy, Debug, PartialEq, Eq)]
 pub struct SortVar(pub u64);
