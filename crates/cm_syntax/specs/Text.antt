@@ -1,5 +1,6 @@
 -- Which tree a text has, and where a text without one goes wrong.
 use Rattle.std.specs.Prelude.{◌≡◌, ℕ, ◌+◌, ◌-◌, nat_lt, Bool, true, false, List, [], ◌∷◌, ◌++◌, map, length, drop, Result, Ok, Err, if◌then◌else◌}
+use Rattle.cm_model.specs.Limits.{bracket_limit}
 use Rattle.cm_model.specs.declared.place.Place.{Place}
 use Rattle.cm_tokens.specs.declared.token.Token.{Token}
 use Rattle.cm_tokens.specs.declared.token.Token.TheVariants.{OpenRound, CloseRound, OpenSquare, CloseSquare, OpenCurly, CloseCurly}
@@ -57,7 +58,7 @@ open_after n t = if opens t then n + 1 else (if closes t then n - 1 else n)
 
 -- with n brackets open, a token opens a 65th
 abbrev pub too_deep : ℕ → Token → Bool
-too_deep n t = if opens t then (if nat_lt n 64 then false else true) else false
+too_deep n t = if opens t then (if nat_lt n bracket_limit then false else true) else false
 
 -- with n brackets open, no token opens a 65th
 abbrev pub is_shallow : ℕ → List Token → Bool

@@ -1,3 +1,5 @@
+//! Why a text has no tree.
+
 ghost use Rattle.std.specs.Prelude.{◌≡◌};
 
 use cm_model::{NoMemory, Place};

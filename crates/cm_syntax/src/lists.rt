@@ -1,3 +1,5 @@
+//! Lists of parts.
+
 ghost use Rattle.std.specs.Prelude.{◌≡◌, ◌∷◌, IfOk, IfErr, Ok, Err};
 
 use crate::SyntaxFault;

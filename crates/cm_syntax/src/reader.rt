@@ -12,13 +12,10 @@ ghost use Rattle.cm_syntax.specs.declared.fault.SyntaxFault.TheVariants as fault
 
 use crate::SyntaxFault;
 use crate::mark::Mark;
-use cm_model::{Name, NoMemory, Place};
+use cm_model::{Name, NoMemory, Place, limits};
 use cm_tokens::{Placed, Token, Tokens};
 use std::alloc::Global;
 use std::marker::Model;
-
-/// The most brackets that may be open at once.
-const LIMIT: u64 = 64;
 
 /// The place of a token that is not there.
 const NOWHERE: Place = Place { line: 0, col: 0 };
@@ -172,7 +169,7 @@ fn opened_by(before: u64, token: &Token) -> Option<u64>
     ensures { MatchOption result (Text.too_deep before token.now ≡ true) (λ n. (Text.too_deep before token.now ≡ false) × (n ≡ Text.open_after before token.now)) }
 {
     match bracket_of(token) {
-        Bracket::Opens if before >= LIMIT => None,
+        Bracket::Opens if before >= limits::BRACKETS => None,
         Bracket::Opens => Some(before + 1),
         Bracket::Closes => Some(before.saturating_sub(1)),
         Bracket::Neither => Some(before),

@@ -1,3 +1,5 @@
+//! Each alternative of the grammar once, and texts at fault.
+
 use super::*;
 use cm_model::{Name, Place};
 use std::alloc::Global;

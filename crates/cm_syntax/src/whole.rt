@@ -1,3 +1,5 @@
+//! A whole text, read to its end.
+
 ghost use Rattle.std.specs.Prelude.{◌≡◌, ◌-◌, ◌^◌, ◌<◌, List, length, Result, None, Some, IfOk, IfErr};
 ghost use Rattle.cm_tokens.specs.Listing as Listing;
 ghost use Rattle.cm_tokens.specs.declared.token.Placed.{Placed};

@@ -1,6 +1,8 @@
 -- Worked texts and their tokens.
-use Rattle.std.specs.Prelude.{◌≡◌, ℕ, List, [], ◌∷◌, ◌++◌, codes}
+use Rattle.std.specs.Prelude.{◌≡◌, ℕ, List, [], ◌∷◌, ◌++◌, map, codes}
+use Rattle.cm_model.specs.Names as names
 use Rattle.cm_tokens.specs.Listing.{tokens_of}
+use Rattle.cm_tokens.specs.Spellings.{reserved_words}
 use Rattle.cm_tokens.specs.declared.token.Token.{Token}
 use Rattle.cm_tokens.specs.declared.token.Token.TheVariants as token
 use Rattle.cm_tokens.specs.declared.token.Placed.{Placed}
@@ -22,6 +24,10 @@ Dots = tokens_of (codes "a.b..c->")
     ∷ placed 1 7 token.Arrow
     ∷ placed 1 9 token.End
     ∷ []
+
+-- the reserved words are those that no name of a model is
+abbrev pub SameWords : Type 0
+SameWords = map (λ w. w.0) reserved_words ≡ names.reserved_words
 
 -- a word is reserved as a whole run, and a run begins with a letter
 abbrev pub Words : Type 0

@@ -4,6 +4,7 @@ use Rattle.std.specs.Char.{is_ascii_alphabetic, is_ascii_digit}
 use Rattle.std.specs.List.{starts_with}
 use Rattle.std.specs.Str.{bytes_eq}
 use Rattle.std.specs.Str.Parse.{digits_value}
+use Rattle.cm_model.specs.Limits.{name_limit}
 use Rattle.cm_tokens.specs.Bytes.{is_name_byte}
 use Rattle.cm_tokens.specs.Spellings.{marks, reserved_words}
 use Rattle.cm_tokens.specs.declared.token.Token.{Token}
@@ -16,7 +17,7 @@ spelled_or other (w ∷ ws) run = if bytes_eq w.0 run then w.1 else spelled_or o
 
 -- a run that begins with a letter: a reserved word, or a name of at most 40 bytes
 unfoldable pub word_of : List ℕ → Token
-word_of run = spelled_or (if nat_le (length run) 40 then token.Name run else token.Foreign) reserved_words run
+word_of run = spelled_or (if nat_le (length run) name_limit then token.Name run else token.Foreign) reserved_words run
 
 -- `0`, or 1 to 7 digits of which the first is not 0
 abbrev pub is_numeral : List ℕ → Bool

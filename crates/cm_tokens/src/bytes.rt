@@ -1,4 +1,5 @@
-// Runs of bytes of a kind, at the front of a text.
+//! Runs of bytes of a kind, at the front of a text.
+
 ghost use Rattle.std.specs.Prelude.{◌≡◌};
 ghost use Rattle.std.specs.Char.{is_ascii_digit};
 ghost use Rattle.std.specs.List.{prefix_len};

@@ -1,4 +1,5 @@
-// The token at the front of a text.
+//! The token at the front of a text.
+
 ghost use Rattle.std.specs.Prelude.{◌≡◌, IfOk};
 ghost use Rattle.cm_tokens.specs.First.{first_token};
 

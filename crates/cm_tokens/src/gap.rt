@@ -1,4 +1,5 @@
-// What stands between tokens.
+//! What stands between tokens.
+
 ghost use Rattle.std.specs.Prelude.{◌≡◌, ◌+◌, ◌<◌, ◌≤◌, drop, length, MatchBool};
 ghost use Rattle.cm_tokens.specs.Gap.{begins_comment, gap_of};
 

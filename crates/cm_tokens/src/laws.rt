@@ -1,5 +1,6 @@
-// What holds of the definitions themselves.
-ghost use Rattle.cm_tokens.specs.Examples.{Comments, Dots, Numerals, Words};
+//! What holds of the definitions themselves.
+
+ghost use Rattle.cm_tokens.specs.Examples.{Comments, Dots, Numerals, SameWords, Words};
 ghost use Rattle.cm_tokens.specs.Listing.{TokensEndOnce};
 
 /// Each text has the end as its last token, and only there.
@@ -9,6 +10,10 @@ pub fn tokens_end_once()
 
 fn dots_go_by_the_longest_mark()
     ensures { Dots }
+{}
+
+fn reserved_words_are_no_names()
+    ensures { SameWords }
 {}
 
 fn words_are_reserved_whole()

@@ -1,4 +1,5 @@
-// Marks.
+//! Marks.
+
 ghost use Rattle.std.specs.Prelude.{◌≡◌, if◌then◌else◌, nat_eq, [], ◌∷◌};
 ghost use Rattle.std.specs.List.{starts_with};
 ghost use Rattle.cm_tokens.specs.First.{mark_of};

@@ -1,3 +1,5 @@
+//! Tokens of worked texts.
+
 use super::*;
 use cm_model::NoMemory;
 use std::alloc::Global;

@@ -1,3 +1,5 @@
+//! Tokens.
+
 use cm_model::{Name, Place};
 
 /// A token of a model's text.

@@ -1,4 +1,5 @@
-// A text token by token.
+//! A text token by token.
+
 ghost use Rattle.std.specs.Prelude.{◌≡◌, ◌-◌, ◌^◌, ◌<◌, if◌then◌else◌, List, [], ◌∷◌, length, IfOk, MatchOption};
 ghost use Rattle.cm_tokens.specs.Listing.{tokens_behind, tokens_of};
 ghost use Rattle.cm_tokens.specs.declared.token.Placed.{Placed};

@@ -1,4 +1,5 @@
-// Reserved words and names.
+//! Reserved words and names.
+
 ghost use Rattle.std.specs.Prelude.{◌≡◌, List, ℕ, [], ◌∷◌, unwrap_or, IfOk};
 ghost use Rattle.std.specs.List.{AllPass};
 ghost use Rattle.cm_tokens.specs.Bytes.{is_name_byte};
@@ -8,7 +9,7 @@ ghost use Rattle.cm_tokens.specs.declared.token.Token.{Token};
 
 use crate::bytes::name_len;
 use crate::token::Token;
-use cm_model::{Name, NoMemory};
+use cm_model::{Name, NoMemory, limits};
 use std::alloc::Global;
 
 #[inline(always)]
@@ -82,9 +83,6 @@ fn reserved(first: u8, behind: &[u8]) -> Option<Token>
     }
 }
 
-// A name has at most so many bytes.
-const LONGEST_NAME: usize = 40;
-
 fn reserved_word(run: &[u8]) -> Option<Token>
     ensures { (other : Token) → unwrap_or result other ≡ spelled_or other reserved_words run.now }
 {
@@ -113,7 +111,7 @@ fn word_token(alloc: Global, run: &[u8]) -> Result<Token, NoMemory>
     if let Some(token) = reserved_word(run) {
         return Ok(token);
     }
-    if run.len() > LONGEST_NAME {
+    if run.len() > limits::NAME {
         return Ok(Token::Foreign);
     }
     let name = name(alloc, run)?;
