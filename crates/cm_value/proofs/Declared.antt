@@ -30,12 +30,12 @@ there {X} xs i lt = at xs i (ltb-true i (length xs) lt)
     at (x ∷ xs) zero lt = (x, refl)
     at (x ∷ xs) (suc i) lt = at xs i (omega arith)
 
-all_at : {X : Type 0} (p : X → Bool) (xs : List X) (i : ℕ) (x : X) → list_all p xs ≡ true → slice_get xs i ≡ Some x → p x ≡ true
+pub all_at : {X : Type 0} (p : X → Bool) (xs : List X) (i : ℕ) (x : X) → list_all p xs ≡ true → slice_get xs i ≡ Some x → p x ≡ true
 all_at p [] i x all at = absurd (cc)
 all_at p (y ∷ xs) zero x all at = let same : y ≡ x = cc in subst (λ z. p z ≡ true) same (both (p y) (list_all p xs) all).0
 all_at p (y ∷ xs) (suc i) x all at = all_at p xs i x (both (p y) (list_all p xs) all).1 at
 
-each_at : {X : Type 0} (p : ℕ → X → Bool) (n : ℕ) (xs : List X) (i k : ℕ) (x : X) → each_from p n xs ≡ true → slice_get xs i ≡ Some x → k ≡ n + i → p k x ≡ true
+pub each_at : {X : Type 0} (p : ℕ → X → Bool) (n : ℕ) (xs : List X) (i k : ℕ) (x : X) → each_from p n xs ≡ true → slice_get xs i ≡ Some x → k ≡ n + i → p k x ≡ true
 each_at p n [] i k x all at is = absurd (cc)
 each_at p n (y ∷ xs) zero k x all at is =
     let same : y ≡ x = cc in

@@ -1,3 +1,5 @@
+//! Whether two values are one.
+
 ghost use Rattle.std.specs.Prelude.{◌≡◌, ◌↔◌, IsTrue};
 
 use crate::Value;

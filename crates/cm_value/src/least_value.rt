@@ -1,3 +1,5 @@
+//! The least value of a type.
+
 ghost use Rattle.std.specs.Prelude.{◌≡◌, IfOk, map, slice_get};
 ghost use Rattle.cm_model.specs.Types.{IsType};
 ghost use Rattle.cm_value.specs.Membership.{IsValueOf};

@@ -1,3 +1,5 @@
+//! Whether a value is one of a type.
+
 ghost use Rattle.std.specs.Prelude.{◌≡◌, ◌↔◌, IsTrue, map, slice_get};
 ghost use Rattle.cm_value.specs.Membership.{is_value_of, IsValueOf, member_of, are_members, has_fields, is_within, has_variant};
 

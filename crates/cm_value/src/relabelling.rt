@@ -1,3 +1,5 @@
+//! The exchange of two elements of a sort.
+
 ghost use Rattle.std.specs.Prelude.{◌≡◌, IfOk, map, slice_get, option_map, if◌then◌else◌};
 ghost use Rattle.std.specs.Option.{option_copied};
 ghost use Rattle.cm_model.specs.declared.ty.Ty.{out-Ty};

@@ -1,3 +1,5 @@
+//! Worked examples of each call.
+
 mod example;
 mod made;
 

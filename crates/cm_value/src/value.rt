@@ -1,3 +1,5 @@
+//! Values.
+
 use cm_model::{Boxed, List};
 
 /// A value of a type of a model.

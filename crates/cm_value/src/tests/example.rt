@@ -1,3 +1,5 @@
+//! The small model of the examples.
+
 ghost use Rattle.std.specs.Prelude.{◌≡◌, IfOk, List, ℕ, [], ◌∷◌, codes};
 ghost use Rattle.cm_value.specs.Example.{example, example_ints, example_enums, point, node};
 

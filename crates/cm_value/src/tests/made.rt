@@ -1,3 +1,5 @@
+//! Values as the tests write them.
+
 use crate::Value;
 use cm_model::{Boxed, List, NoMemory, Ty};
 use std::alloc::Global;
