@@ -12,7 +12,7 @@ use Rattle.cm_eval.specs.declared.rules.Rules.{Rules}
 use Rattle.cm_eval.specs.Script.{Replies, Blocks, Decides, Reads, Writes, given}
 use Rattle.cm_eval.specs.State.{Store, Touched, store}
 use Rattle.cm_eval.specs.Evaluation.{Doing, body_of, meanings, invariant_of}
-use Rattle.cm_eval.specs.Run.{Blocked, Replied, End, Ended, Stopped, logged, run, evaluation_of, asked, checked}
+use Rattle.cm_eval.specs.Run.{Replied, End, Ended, Stopped, logged, run, evaluation_of, asked, checked}
 use Rattle.cm_eval.specs.Invariant.{MeetsInvariant, invariant_holds, declared_invariant, replies}
 use Rattle.cm_eval.specs.Going.{Gives, Asks, stopped, ended_by, touched_of, funs_of}
 

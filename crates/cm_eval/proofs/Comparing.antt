@@ -2,7 +2,7 @@
 use Rattle.std.proofs.Common.{◌≡◌, ◌⊎◌, inl, inr, ℕ, ℤ, ◌==◌, ltb, int_lt, Bool, true, false, ◌&&◌, List, [], ◌∷◌, map, Option, Some, None, slice_get, IsTrue, refl, sym, ap, ◌∙◌, subst, if◌then◌else◌, arith}
 use Rattle.std.specs.Ordering.{int_eq}
 use Rattle.std.proofs.lemmas.Bool.{and_parts}
-use Rattle.std.proofs.lemmas.Bool.{ltb-true, lt-ltb}
+use Rattle.std.proofs.lemmas.Bool.{lt-ltb}
 use Rattle.std.proofs.lemmas.Bool.Decides.{Decides-int_eq}
 use Rattle.std.proofs.lemmas.Int.{ints}
 use Rattle.cm_model.specs.Limits.{variant_limit}
@@ -16,7 +16,7 @@ use Rattle.cm_value.specs.declared.value.Value.TheVariants as value
 use Rattle.cm_value.specs.declared.value.Value.TheViews.{roll-out-Value}
 use Rattle.cm_value.specs.declared.value.Value.TheOpen.{Value-F}
 use Rattle.cm_value.specs.declared.value.Value.TheViews.{roll-Value}
-use Rattle.cm_value.specs.Membership.{IsValueOf, is_value_of, are_values_of, are_members, member_of, is_sort, is_number_of, is_variant_of, is_record_of, is_none_of, is_some_of, has_fields, field_types}
+use Rattle.cm_value.specs.Membership.{IsValueOf, is_value_of, are_values_of, member_of, is_sort, is_number_of, is_variant_of, is_record_of, is_none_of, is_some_of, has_fields, field_types}
 use Rattle.cm_value.proofs.Folds.{fold-elem, fold-int, fold-tag, fold-rec, fold-none, fold-some}
 use Rattle.cm_value.proofs.Members.{member-elem, member-int, member-tag, member-rec, member-none, member-some}
 use Rattle.cm_value.proofs.Limited.{value_is_limited, limited_tag}

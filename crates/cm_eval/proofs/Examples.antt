@@ -4,7 +4,7 @@ use Rattle.cm_value.specs.declared.value.Value.{Value, out-Value}
 use Rattle.cm_value.specs.declared.value.Value.TheVariants as value
 use Rattle.cm_value.specs.declared.value.Value.TheViews.{out-roll-Value}
 use Rattle.cm_value.specs.declared.value.Value.TheOpen.{Value-F}
-use Rattle.cm_value.proofs.Folds.{fold-elem, fold-int, fold-rec, fold-none, fold-some}
+use Rattle.cm_value.proofs.Folds.{fold-elem, fold-int, fold-tag, fold-rec, fold-none, fold-some}
 use Rattle.cm_eval.specs.State.{Touched}
 use Rattle.cm_eval.specs.Comparison.{Comparing, comparison_step}
 use Rattle.cm_eval.specs.Run.{Trace, Blocked, Logs}
@@ -37,6 +37,9 @@ elem_compared t n w k = ap (λ (m : Comparing Trace). m w k) (fold-elem (step_in
 
 pub int_compared : (t : Touched) (n : ℤ) (w : Value) (k : Bool → Trace) → compared_in t (value.Int n) w k ≡ step_in t (Value-F.Int n) w k
 int_compared t n w k = ap (λ (m : Comparing Trace). m w k) (fold-int (step_in t) n)
+
+pub tag_compared : (t : Touched) (n : ℕ) (w : Value) (k : Bool → Trace) → compared_in t (value.Tag n) w k ≡ step_in t (Value-F.Tag n) w k
+tag_compared t n w k = ap (λ (m : Comparing Trace). m w k) (fold-tag (step_in t) n)
 
 pub rec_compared : (t : Touched) (vs : List Value) (w : Value) (k : Bool → Trace) → compared_in t (value.Rec vs) w k ≡ step_in t (Value-F.Rec (map (compared_in t) vs)) w k
 rec_compared t vs w k = ap (λ (m : Comparing Trace). m w k) (fold-rec (step_in t) vs)

@@ -21,7 +21,8 @@ use Rattle.cm_model.specs.declared.body.Stmt.TheFolds.{fold-Stmt, fold-roll-Stmt
 use Rattle.cm_value.proofs.Declared.{enum_at}
 use Rattle.cm_eval.specs.Limits.{reach_of, key_reach, stmt_reach_step, stmt_reach, body_reach, funs_reach, states_reach}
 use Rattle.cm_eval.proofs.Reaches.{found_within}
-use Rattle.cm_eval.proofs.Reaching.{HasSmallEnums, passed, came, typed_part, bool_part, value_part, key_part, typed_reach}
+use Rattle.cm_model.proofs.KindParts.{passed, came, typed_part, bool_part, value_part, key_part}
+use Rattle.cm_eval.proofs.Reaching.{HasSmallEnums, typed_reach}
 
 module _ (t : Tables) (small : HasSmallEnums t) (funs : ℕ) (reply : Ty) where
   abbrev shifts : Stmt → ℕ

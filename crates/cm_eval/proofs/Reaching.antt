@@ -1,82 +1,25 @@
 -- A well typed expression has no large literals: it reaches no further than its shifts stand one inside another.
-use Rattle.std.proofs.Common.{◌≡◌, ℕ, ◌+◌, ◌≤◌, ltb, leb, Bool, true, false, not, ◌&&◌, ◌||◌, if◌then◌else◌, List, [], ◌∷◌, map, length, slice_get, Option, Some, None, option_map, is_some, refl, sym, ap, ◌∙◌, subst, arith}
+use Rattle.std.proofs.Common.{◌≡◌, ℕ, ◌+◌, ◌≤◌, ltb, leb, Bool, true, false, not, ◌&&◌, if◌then◌else◌, List, [], ◌∷◌, map, length, slice_get, Option, Some, None, is_some, refl, sym, ap, ◌∙◌, subst, arith}
 use Rattle.std.specs.List.{list_all}
 use Rattle.std.proofs.lemmas.Bool.{and_parts, ltb-true, lt-ltb}
 use Rattle.cm_model.specs.Tables.{Tables}
 use Rattle.cm_model.specs.Limits.{is_number}
-use Rattle.cm_model.specs.Kinds.{Kind, Number, Of, Scope, Set, given, if_so, is_bool, is_integer, is_of, type_of, are_of, is_named, field_of, are_sets, is_key, same_type, are_comparable, kind_step, set_step, kind_of}
+use Rattle.cm_model.specs.Kinds.{Kind, Number, Of, Scope, Set, given, if_so, is_bool, is_integer, is_of, type_of, are_of, is_named, field_of, are_sets, is_key, kind_step, set_step, kind_of}
 use Rattle.cm_model.specs.Weights.{greatest, shifts_step, shifts_of}
 use Rattle.cm_model.specs.declared.ty.Ty.{Ty}
 use Rattle.cm_model.specs.declared.ty.Part.{Part}
 use Rattle.cm_model.specs.declared.ty.EnumDecl.{EnumDecl}
-use Rattle.cm_model.specs.declared.body.Op.{Op}
-use Rattle.cm_model.specs.declared.body.Op.TheVariants as op
 use Rattle.cm_model.specs.declared.body.SetField.{SetField, fold-SetField, out-SetField, roll-out-SetField, fold-roll-SetField}
 use Rattle.cm_model.specs.declared.body.Expr.{Expr}
 use Rattle.cm_model.specs.declared.body.Expr.TheViews.{roll-Expr}
 use Rattle.cm_model.specs.declared.body.Expr.TheOpen.{Expr-F}
 use Rattle.cm_model.specs.declared.body.Expr.TheFolds.{fold-roll-Expr, ind-Expr, map-Expr}
+use Rattle.cm_model.proofs.KindParts.{passed, came, typed_part, bool_part, integer_part, value_part, key_part, compared}
 use Rattle.cm_eval.specs.Limits.{too_far, reach_step, reach_of}
 
 -- enums of 64 variants at most
 abbrev pub HasSmallEnums : Tables → Type 0
 HasSmallEnums t = (e : ℕ) (d : EnumDecl) → slice_get t.enums e ≡ Some d → length d.variants ≤ 64
-
--- where an option was made by a test, the test is true; where by an option, that one has a content
-pub passed : {X : Type 0} (b : Bool) (x : X) → is_some (if_so b x) ≡ true → b ≡ true
-passed true x h = refl
-passed false x h = absurd (cc)
-
-pub came : {X Y : Type 0} (o : Option X) (k : X → Option Y) → is_some (given o k) ≡ true → (x : X) × (o ≡ Some x) × (is_some (k x) ≡ true)
-came (Some x) k h = (x, refl, h)
-came None k h = absurd (cc)
-
--- parts of an expression with a kind have one
-pub typed_part : {Y : Type 0} (k : Option Kind) (f : Ty → Option Y) → is_some (given (type_of k) f) ≡ true → is_some k ≡ true
-typed_part (Some k) f h = refl
-typed_part None f h = absurd (cc)
-
-pub bool_part : (k : Option Kind) → is_bool k ≡ true → is_some k ≡ true
-bool_part (Some k) h = refl
-bool_part None h = absurd (cc)
-
-integer_part : (k : Option Kind) → is_integer k ≡ true → is_some k ≡ true
-integer_part (Some k) h = refl
-integer_part None h = absurd (cc)
-
-pub value_part : (t : Ty) (k : Option Kind) → is_of t k ≡ true → is_some k ≡ true
-value_part t (Some k) h = refl
-value_part t None h = absurd (cc)
-
-pub key_part : (t : Option Ty) (k : Option Kind) → is_key t (Some k) ≡ true → is_some k ≡ true
-key_part None k h = absurd (cc)
-key_part (Some t) k h = value_part t k h
-
-abbrev Both : Option Kind → Option Kind → Type 0
-Both j k = (is_some j ≡ true) × (is_some k ≡ true)
-
-integers : (j k : Option Kind) → (is_integer j && is_integer k) ≡ true → Both j k
-integers j k h = let b = and_parts (is_integer j) (is_integer k) h in (integer_part j b.0, integer_part k b.1)
-
-values : (j k : Option Kind) → same_type (type_of j) (type_of k) ≡ true → Both j k
-values (Some j) (Some k) h = (refl, refl)
-values None (Some (Of t)) h = absurd (cc)
-values None (Some Number) h = absurd (cc)
-values None None h = absurd (cc)
-values (Some (Of t)) None h = absurd (cc)
-values (Some Number) None h = absurd (cc)
-
-alike : (b : Bool) (j k : Option Kind) → (b ≡ true → Both j k) → (b || same_type (type_of j) (type_of k)) ≡ true → Both j k
-alike true j k numbers h = numbers refl
-alike false j k numbers h = values j k h
-
-compared : (o : Op) (j k : Option Kind) → are_comparable o j k ≡ true → Both j k
-compared op.Eq j k h = alike (is_integer j && is_integer k) j k (integers j k) h
-compared op.Ne j k h = alike (is_integer j && is_integer k) j k (integers j k) h
-compared op.Lt j k h = integers j k h
-compared op.Le j k h = integers j k h
-compared op.Gt j k h = integers j k h
-compared op.Ge j k h = integers j k h
 
 -- the reach of literals
 number_reach : (b : Bool) (k : Kind) → is_some (if_so b k) ≡ true → (if b then 0 else too_far) ≤ 0

@@ -1,5 +1,5 @@
 -- The look-up after a cell has got another value.
-use Rattle.std.proofs.Common.{◌≡◌, Bool, true, false, List, [], ◌∷◌, Option, Some, None, slice_get, refl, sym, ap, ◌∙◌, if◌then◌else◌}
+use Rattle.std.proofs.Common.{◌≡◌, Bool, true, false, List, [], ◌∷◌, Some, None, slice_get, refl, sym, ap, ◌∙◌, if◌then◌else◌}
 use Rattle.std.proofs.lemmas.Bool.{false_from_ne_true}
 use Rattle.cm_value.specs.declared.value.Value.{Value}
 use Rattle.cm_eval.specs.declared.log.CellName.{CellName}
@@ -17,9 +17,9 @@ module _ (c : CellName) (v : Value) where
       by true is later = ap (λ b. if b then Some v else exception_of es c) is
       by false is later = ap (λ b. if b then Some e.value else exception_of (exceptions_with es c v) c) is ∙ later
 
-  kept : (d : CellName) → same_cell c d ≡ false → (es : List Except) → exception_of (exceptions_with es c v) d ≡ exception_of es d
-  kept d apart [] = ap (λ b. if b then Some v else None) apart
-  kept d apart (e ∷ es) = by (same_cell e.cell c) refl (kept d apart es)
+  pub exception_elsewhere : (d : CellName) → same_cell c d ≡ false → (es : List Except) → exception_of (exceptions_with es c v) d ≡ exception_of es d
+  exception_elsewhere d apart [] = ap (λ b. if b then Some v else None) apart
+  exception_elsewhere d apart (e ∷ es) = by (same_cell e.cell c) refl (exception_elsewhere d apart es)
     where
       other : same_cell e.cell c ≡ true → same_cell e.cell d ≡ false
       other is = ap (λ x. same_cell x d) (same_cell_equal e.cell c is) ∙ apart
@@ -38,4 +38,4 @@ look_up_put s c v = ap (λ o. or_default o (slice_get s.defaults c.state)) (stor
 pub look_up_elsewhere : (s : Store) (c d : CellName) (v : Value) → (c ≡ d → ⊥) → look_up (put s c v) d ≡ look_up s d
 look_up_elsewhere s c d v apart =
     ap (λ o. or_default o (slice_get s.defaults d.state))
-    (kept c v d (false_from_ne_true (same_cell c d) (λ e. apart (same_cell_equal c d e))) s.exceptions)
+    (exception_elsewhere c v d (false_from_ne_true (same_cell c d) (λ e. apart (same_cell_equal c d e))) s.exceptions)

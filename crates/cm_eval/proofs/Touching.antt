@@ -10,7 +10,7 @@ use Rattle.cm_eval.specs.declared.rules.Rules.{Rules}
 use Rattle.cm_eval.specs.Script.{Replies, Blocks, Decides, Reads, Writes}
 use Rattle.cm_eval.specs.State.{Store, Touched, look_up, put, marked}
 use Rattle.cm_eval.specs.Evaluation.{Doing, bool, meanings, meaning_of, inspected, replies_if, invariant_of}
-use Rattle.cm_eval.specs.Run.{Trace, Blocked, End, Ended, Stopped, logged, run, touched_at, touched_with, asked}
+use Rattle.cm_eval.specs.Run.{Trace, End, Ended, Stopped, logged, run, touched_at, touched_with, asked}
 use Rattle.cm_eval.specs.Going.{Gives, Touches, Asks, goes_on, stopped, ended_by, touched_of, doing_of}
 
 module _ (r : Rules) (c : CellName) (d : StateDecl) (v : Value) (s : Store) (l after : Log) (o : Option ℕ)

@@ -1,6 +1,6 @@
 -- Bounds on numbers: those in the values of a state and of locals are within the limit on numbers, and only as
 -- many shifts by as much stand one inside another as the limit on shifts allows, so that no sum is large.
-use Rattle.std.specs.Prelude.{ℕ, ◌+◌, ◌*◌, max, ltb, ℤ, pos, neg_ℤ, ◌≤ℤ◌, Bool, ◌&&◌, if◌then◌else◌, List, map, Option, Some, None, IsTrue}
+use Rattle.std.specs.Prelude.{ℕ, ◌+◌, ◌*◌, ltb, ℤ, pos, neg_ℤ, ◌≤ℤ◌, Bool, ◌&&◌, if◌then◌else◌, List, map, Option, IsTrue}
 use Rattle.std.specs.List.{list_all}
 use Rattle.cm_model.specs.Limits.{variant_limit, shift_limit, number_limit, is_number}
 use Rattle.cm_model.specs.Weights.{greatest, depth_step, key_depth, stmt_depth_step}

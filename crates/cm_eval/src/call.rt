@@ -1,3 +1,5 @@
+//! A call on its arguments, and an invariant asked alone.
+
 ghost use Rattle.std.specs.Prelude.{◌≡◌, ◌↔◌, IfOk, IsTrue};
 ghost use Rattle.cm_value.specs.Limits.{is_limited};
 ghost use Rattle.cm_eval.specs.Run.{evaluation_of};

@@ -1,3 +1,5 @@
+//! Cells: touched, read, written, and asked for their invariant when they are new.
+
 ghost use Rattle.std.specs.Prelude.{◌≡◌, ◌≤◌, ◌<◌, ℕ, Bool, IfOk, IfSome, IsTrue, List, length, slice_set, true};
 ghost use Rattle.cm_model.specs.Limits.{shift_limit};
 ghost use Rattle.cm_value.specs.declared.value.Value.{Value};

@@ -1,3 +1,5 @@
+//! Two values compared by their type, decision by decision.
+
 ghost use Rattle.std.specs.Prelude.{◌≡◌, ◌==◌, ◌++◌, ◌∷◌, [], IfOk, OnOk, map, List, ℕ, Bool};
 ghost use Rattle.cm_value.specs.declared.value.Value.{Value};
 ghost use Rattle.cm_eval.specs.Comparison.{distinguished, ordered, fields_compared, comparison};

@@ -1,3 +1,5 @@
+//! Expressions, one function for each form.
+
 ghost use Rattle.std.specs.Prelude.{◌≡◌, ◌≤◌, ◌+◌, ℕ, ℤ, Bool, IfOk, IfSome, IsTrue, List, [], map, max, option_copied, option_map, slice_get, Some};
 ghost use Rattle.cm_model.specs.Limits.{is_number, shift_limit};
 ghost use Rattle.cm_model.specs.Weights.{greatest};

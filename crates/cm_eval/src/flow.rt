@@ -1,3 +1,5 @@
+//! How a run goes on after a statement.
+
 use cm_value::Value;
 
 /// Where a run stands after a statement.

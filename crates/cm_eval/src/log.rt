@@ -1,3 +1,5 @@
+//! What a run logs: decisions, touched cells, and which of them were written.
+
 ghost use Rattle.std.specs.Prelude.{◌≡◌, [], IfOk};
 
 use cm_model::{List, NoMemory};

@@ -1,3 +1,5 @@
+//! What comes out of an expression, and what is done with it.
+
 ghost use Rattle.std.specs.Prelude.{◌≡◌, ◌≤◌, ◌<◌, ℕ, ℤ, ◌+ℤ◌, Bool, not, ◌==◌, IfOk, IfSome, IsTrue, Some, option_copied, option_map, slice_get};
 ghost use Rattle.cm_model.specs.Limits.{variant_limit, is_number};
 ghost use Rattle.cm_value.specs.declared.value.Value.{Value};

@@ -1,3 +1,5 @@
+//! What goes into a call, and what comes out.
+
 use cm_value::{Vals, Value};
 
 /// The arguments of a call, outer ones first and then internal ones.

@@ -1,3 +1,5 @@
+//! The parts of a model that a run looks at.
+
 use cm_model::{Call, IntDecl, StateDecl};
 use std::alloc::Global;
 

@@ -1,3 +1,5 @@
+//! States: defaults and exceptions.
+
 ghost use Rattle.std.specs.Prelude.{◌≡◌, ◌<◌, ◌≤◌, ℕ, length, slice_get, Some, IfOk, IfSome, OnOk, OnErr, IsTrue, option_copied, MatchOption, drop, List};
 ghost use Rattle.cm_value.specs.declared.value.Value.{Value};
 ghost use Rattle.cm_eval.specs.Evaluation.{named};

@@ -1,3 +1,5 @@
+//! Statements, blocks and bodies.
+
 ghost use Rattle.std.specs.Prelude.{◌≡◌, ◌≤◌, ◌<◌, ℕ, Bool, IfOk, IfSome, OnOk, IsTrue, List, length, take, map, Some};
 ghost use Rattle.cm_model.specs.declared.body.Stmt.{Stmt};
 ghost use Rattle.cm_model.specs.Limits.{shift_limit};
