@@ -22,18 +22,18 @@ last_is : {X : Type 0} (xs : List X) (x : X) → slice_get (xs ++ x ∷ []) (len
 last_is [] x = refl
 last_is (y ∷ ys) x = last_is ys x
 
-module _ (P : Store → Touched → Type 0) where
+module _ (Q : Value → Store → Touched → Type 0) where
   -- how a run replies
   abbrev pub Keeps : Trace → Type 0
-  Keeps (Replied v s t) = P s t
+  Keeps (Replied v s t) = Q v s t
   Keeps (Blocked t) = Unit {0}
   Keeps (Logs t d more) = Keeps more
 
   abbrev pub EndKeeps : End → Type 0
-  EndKeeps (Ended v s t log) = P s t
+  EndKeeps (Ended v s t log) = Q v s t
   EndKeeps (Stopped t log) = Unit {0}
 
-  logged_keeps : (tr : Trace) (log : List ℕ) → Keeps tr → EndKeeps (logged log tr)
+  pub logged_keeps : (tr : Trace) (log : List ℕ) → Keeps tr → EndKeeps (logged log tr)
   logged_keeps (Replied v s t) log h = h
   logged_keeps (Blocked t) log h = tt
   logged_keeps (Logs t d more) log h = logged_keeps more (log ++ d ∷ []) h
@@ -84,34 +84,37 @@ module _ (P : Store → Touched → Type 0) where
   checked_keeps ints None v t more h = h
   checked_keeps ints (Some e) v t more h = asked_keeps t (invariant_of ints e v) more h
 
-  -- what may be asked of a new cell, and of one that is written
-  module _ (ints : List IntDecl) (states : List StateDecl)
-      (adds : (s : Store) (t : Touched) (c : CellName) (d : StateDecl) → slice_get states c.state ≡ Some d → is_touched t.cells c ≡ false
-      → P s t → P s (with_cell t c))
-      (writes : (s : Store) (t : Touched) (c : CellName) (x : Value) (i : ℕ) → slice_get t.cells i ≡ Some c → P s t → P (put s c x) (marked t i)) where
-    touched_keeps : (s : Store) (c : CellName) (t : Touched) (k : Value → ℕ → Touched → Trace) → P s t
-        → ((v : Value) (i : ℕ) (after : Touched) → slice_get after.cells i ≡ Some c → P s after → Keeps (k v i after))
+  module _ (ints : List IntDecl) (states : List StateDecl) (P : Store → Touched → Type 0) where
+    -- a touch of a cell, which is new or is found among the touched
+    pub touched_keeps : (s : Store) (c : CellName) (t : Touched) (k : Value → ℕ → Touched → Trace) → P s t
+        → ((d : StateDecl) → slice_get states c.state ≡ Some d → is_touched t.cells c ≡ false → P s (with_cell t c))
+        → ((v : Value) (i : ℕ) (after : Touched) → look_up s c ≡ Some v → slice_get after.cells i ≡ Some c → P s after → Keeps (k v i after))
         → Keeps (touched_at ints states s c t k)
-    touched_keeps s c t k h more = found (slice_get states c.state) refl (look_up s c)
+    touched_keeps s c t k h grows more = found (slice_get states c.state) refl (look_up s c) refl
       where
-        found : (o : Option StateDecl) → slice_get states c.state ≡ o → (p : Option Value) → Keeps (touched_with ints o p c t k)
-        found (Some d) is (Some v) =
+        found : (o : Option StateDecl) → slice_get states c.state ≡ o → (p : Option Value) → look_up s c ≡ p → Keeps (touched_with ints o p c t k)
+        found (Some d) is (Some v) there =
             touch_keeps t.cells 0 c t (λ i. k v i t) (added ints d.inv v c t (k v))
-            (λ i at. subst (λ m. Keeps (k v m t)) (omega arith) (more v i t at h))
+            (λ i at. subst (λ m. Keeps (k v m t)) (omega arith) (more v i t there at h))
             (λ new. checked_keeps ints d.inv v (with_cell t c) (k v (length t.cells) (with_cell t c))
-            (more v (length t.cells) (with_cell t c) (last_is t.cells c) (adds s t c d is new h)))
-        found (Some d) is None = tt
-        found None is p = tt
+            (more v (length t.cells) (with_cell t c) there (last_is t.cells c) (grows d is new)))
+        found (Some d) is None there = tt
+        found None is p there = tt
 
-    run_keeps : (d : Doing) (s : Store) (t : Touched) → P s t → Keeps (run ints states s t d)
-    run_keeps (Replies v) s t h = h
-    run_keeps Blocks s t h = tt
-    run_keeps (Decides d k) s t h = run_keeps (k d) s t h
-    run_keeps (Reads c k) s t h =
-        touched_keeps s c t (λ v i after. run ints states s after (k v)) h (λ v i after at g. run_keeps (k v) s after g)
-    run_keeps (Writes c x k) s t h =
-        touched_keeps s c t (λ v i after. run ints states (put s c x) (marked after i) k) h
-        (λ v i after at g. run_keeps k (put s c x) (marked after i) (writes s after c x i at g))
+    -- what keeps P when a cell is new and when one is written, and gives Q at a reply
+    module _ (adds : (s : Store) (t : Touched) (c : CellName) (d : StateDecl) → slice_get states c.state ≡ Some d → is_touched t.cells c ≡ false
+        → P s t → P s (with_cell t c))
+        (writes : (s : Store) (t : Touched) (c : CellName) (x : Value) (i : ℕ) → slice_get t.cells i ≡ Some c → P s t → P (put s c x) (marked t i))
+        (ends : (v : Value) (s : Store) (t : Touched) → P s t → Q v s t) where
+      run_keeps : (d : Doing) (s : Store) (t : Touched) → P s t → Keeps (run ints states s t d)
+      run_keeps (Replies v) s t h = ends v s t h
+      run_keeps Blocks s t h = tt
+      run_keeps (Decides d k) s t h = run_keeps (k d) s t h
+      run_keeps (Reads c k) s t h =
+          touched_keeps s c t (λ v i after. run ints states s after (k v)) h (λ d is new. adds s t c d is new h) (λ v i after there at g. run_keeps (k v) s after g)
+      run_keeps (Writes c x k) s t h =
+          touched_keeps s c t (λ v i after. run ints states (put s c x) (marked after i) k) h (λ d is new. adds s t c d is new h)
+          (λ v i after there at g. run_keeps k (put s c x) (marked after i) (writes s after c x i at g))
 
-    pub script_keeps : (d : Doing) (s : Store) (t : Touched) (log : List ℕ) → P s t → EndKeeps (logged log (run ints states s t d))
-    script_keeps d s t log h = logged_keeps (run ints states s t d) log (run_keeps d s t h)
+      pub script_keeps : (d : Doing) (s : Store) (t : Touched) (log : List ℕ) → P s t → EndKeeps (logged log (run ints states s t d))
+      script_keeps d s t log h = logged_keeps (run ints states s t d) log (run_keeps d s t h)

@@ -5,3 +5,6 @@ pub mod Orders
 pub mod Typed
 pub mod Agreeing
 pub mod Uneven
+pub mod TypedValues
+pub mod TypedScripts
+pub mod TypedRuns

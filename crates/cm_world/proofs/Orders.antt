@@ -30,21 +30,21 @@ module _ (t : Tables) (ds : List Value) where
   abbrev Good : Store → Touched → Type 0
   Good = Fine ds (length t.states)
 
-  evaluation_keeps : (i : ℕ) (args : List Value) (s : Store) (touched : Touched) (log : List ℕ) → Good s touched → EndKeeps Good (evaluation_of t i args s touched log)
+  evaluation_keeps : (i : ℕ) (args : List Value) (s : Store) (touched : Touched) (log : List ℕ) → Good s touched → EndKeeps (λ v s u. Good s u) (evaluation_of t i args s touched log)
   evaluation_keeps i args s touched log h =
-      script_keeps Good t.ints t.states
+      script_keeps (λ v s u. Good s u) t.ints t.states Good
       (λ s u c d is new g. (g.0, one_more (length t.states) u.cells c (slice_get_within t.states c.state d is) g.1))
-      (λ s u c x i at g. (g.0, g.1)) (call_of t i args) s touched log h
+      (λ s u c x i at g. (g.0, g.1)) (λ v s u g. g) (call_of t i args) s touched log h
 
   abbrev OrderKeeps : OrderEnd → Type 0
   OrderKeeps (Replied v w s touched log) = Good s touched
   OrderKeeps (Blocked touched log) = Unit {0}
 
-  second_keeps : (v : Value) (e : End) → EndKeeps Good e → OrderKeeps (second_ended v e)
+  second_keeps : (v : Value) (e : End) → EndKeeps (λ v s u. Good s u) e → OrderKeeps (second_ended v e)
   second_keeps v (Ended w s touched log) h = h
   second_keeps v (Stopped touched log) h = tt
 
-  after_keeps : (y : Invocation) (e : End) → EndKeeps Good e → OrderKeeps (second_after (evaluation_of t y.call y.args) e)
+  after_keeps : (y : Invocation) (e : End) → EndKeeps (λ v s u. Good s u) e → OrderKeeps (second_after (evaluation_of t y.call y.args) e)
   after_keeps y (Ended v s touched log) h = second_keeps v (evaluation_of t y.call y.args s touched log) (evaluation_keeps y.call y.args s touched log h)
   after_keeps y (Stopped touched log) h = tt
 

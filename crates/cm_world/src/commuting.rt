@@ -1,3 +1,5 @@
+//! Whether a world commutes.
+
 ghost use Rattle.std.specs.Prelude.{◌≡◌, ◌↔◌, IfOk, IsTrue, length};
 ghost use Rattle.cm_world.specs.World.{IsWorldOf};
 ghost use Rattle.cm_world.specs.Commuting.{Commutes, AreEqual};

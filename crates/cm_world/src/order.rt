@@ -1,3 +1,5 @@
+//! Both orders of a pair of calls.
+
 ghost use Rattle.std.specs.Prelude.{◌≡◌, [], IfOk, IsTrue};
 ghost use Rattle.cm_eval.specs.Limits.{are_limited};
 ghost use Rattle.cm_eval.specs.Run.{evaluation_of};

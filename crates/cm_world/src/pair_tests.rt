@@ -1,3 +1,5 @@
+//! The tests of pairs, as data.
+
 use crate::World;
 use cm_model::{List, Over, Pair};
 

@@ -1,3 +1,5 @@
+//! The path of a world.
+
 ghost use Rattle.std.specs.Prelude.{◌≡◌, ◌<◌, ◌++◌, IfOk, OnOk, length, List, ℕ, slice_get, Some, None};
 ghost use Rattle.cm_eval.specs.State.{look_up};
 ghost use Rattle.cm_eval.specs.Going.{touched_of};

@@ -1,3 +1,5 @@
+//! Whether two states are equal.
+
 ghost use Rattle.std.specs.Prelude.{◌≡◌, ◌↔◌, IsTrue, length, slice_get};
 ghost use Rattle.cm_world.specs.World.{is_cell, fits_key};
 ghost use Rattle.cm_world.specs.Commuting.{SameState};

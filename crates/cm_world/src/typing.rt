@@ -1,3 +1,5 @@
+//! Whether a world is one of a pair.
+
 ghost use Rattle.std.specs.Prelude.{◌≡◌, ◌↔◌, IsTrue, map, slice_get};
 ghost use Rattle.std.specs.List.{list_all};
 ghost use Rattle.cm_value.specs.Membership.{is_value_of, are_values_of};

@@ -1,3 +1,5 @@
+//! Worlds.
+
 use cm_eval::{Args, State};
 
 /// A world of a pair of calls: an initial state, and arguments for each of the two.
