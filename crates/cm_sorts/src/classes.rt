@@ -1,3 +1,5 @@
+//! Classes of equal elements, and which of them differ.
+
 ghost use Rattle.std.specs.Prelude.{◌≡◌, ◌≢◌, ◌<◌, ◌≤◌, ◌↔◌, ◌++◌, ◌∷◌, [], ℕ, true, IsTrue, IfOk, OnOk, length, slice_index};
 ghost use Rattle.cm_sorts.specs.Partition.{Satisfies, IsSatisfiable, Allows, Keeps, Implies};
 
@@ -132,9 +134,13 @@ impl Classes {
         words::make_room(&mut self.words, self.variables.len() as u64)
     }
 
-    /// An equal value.
+    /// Equal classes: whatever may be asked of one may be asked of the other. A spare made by `reserve` is not
+    /// copied.
+    ///
+    /// # Errors
+    /// `NoMemory` where memory runs out.
     pub fn try_copy(&self, alloc: Global) -> Result<Classes, NoMemory>
-        ensures { IfOk result (λ copy. copy ≡ self.now) }
+        ensures equal { IfOk result (λ copy. copy ≡ record self.now { spare = copy.spare }) }
     {
         Ok(Classes {
             variables: Vec::from_slice(alloc, self.variables.as_slice())?,

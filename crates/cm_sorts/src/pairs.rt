@@ -1,3 +1,5 @@
+//! Numbers of pairs of variables, by shells.
+
 ghost use Rattle.std.specs.Prelude.{◌≡◌, ◌≢◌, ◌<◌, ◌/◌, ◌^◌, ◌==◌, ◌||◌, ℕ, length};
 ghost use Rattle.cm_sorts.specs.Pairs.{is_pair};
 ghost use Rattle.cm_sorts.specs.Pairs as pairs;

@@ -1,3 +1,5 @@
+//! Worked examples.
+
 use super::*;
 use std::test::Fail;
 

@@ -1,3 +1,5 @@
+//! Bits in words.
+
 ghost use Rattle.std.specs.Prelude.{◌≡◌, ◌<◌, ◌≤◌, ◌^◌, ◌+◌, ◌*◌, ◌-◌, ◌/◌, ◌&&◌, ◌||◌, ◌++◌, ℕ, false, length, map, slice_index, replicate, OnOk};
 ghost use Rattle.cm_sorts.specs.Pairs.{are_marked, is_pair, is_set, pairs_below};
 ghost use Rattle.cm_sorts.specs.Words.{labels_of, is_shared, relabelled};
