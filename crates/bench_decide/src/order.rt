@@ -1,3 +1,5 @@
+//! Times the bounds of integers.
+
 ghost use Rattle.std.specs.Prelude.{◌≡◌, ◌<◌, ◌≤◌, ◌+◌, ◌^◌, IfOk, length};
 
 use crate::Work;

@@ -1,3 +1,5 @@
+//! Times the classes of elements.
+
 ghost use Rattle.std.specs.Prelude.{◌≡◌, ◌<◌, ◌≤◌, ◌+◌, ◌^◌, IfOk, OnOk, IsTrue, length};
 ghost use Rattle.bench_decide.specs.OneSort.{IsOneSort};
 

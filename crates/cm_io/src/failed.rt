@@ -1,3 +1,5 @@
+//! The one way in which the outside fails.
+
 ghost use Rattle.std.specs.Prelude.{Some, codes};
 
 use std::error::Error;

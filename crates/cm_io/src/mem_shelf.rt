@@ -1,3 +1,5 @@
+//! A shelf in memory.
+
 ghost use Rattle.std.specs.Prelude.{◌≡◌, ◌≢◌, ◌↔◌, ◌==◌, ◌+◌, ◌-◌, ◌^◌, ◌<◌, ◌≤◌, ℕ, List, [], Some, length, drop, min, IsTrue, IsSome, IsOk, IfOk, OnErr};
 ghost use Rattle.std.specs.List.{AllPairs, Any};
 ghost use Rattle.std.specs.Option.{option_map};

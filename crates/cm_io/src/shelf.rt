@@ -1,3 +1,5 @@
+//! What gives the bytes of files.
+
 ghost use Rattle.std.specs.Prelude.{◌≤◌, ℕ, List, length, IfOk, OnErr};
 ghost use Rattle.std.specs.declared.option.Option.{Option};
 ghost use Rattle.cm_io.specs.Causes.{Rose};

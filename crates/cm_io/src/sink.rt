@@ -1,3 +1,5 @@
+//! What takes bytes.
+
 ghost use Rattle.std.specs.Prelude.{◌≡◌, ◌≤◌, ℕ, List, [], IsOk, OnErr};
 ghost use Rattle.std.specs.declared.option.Option.{Option};
 ghost use Rattle.cm_io.specs.Causes.{Rose};

@@ -1,3 +1,5 @@
+//! What the shelf and the sink in memory answer.
+
 ghost use Rattle.std.specs.Prelude.{◌≢◌, IfOk};
 ghost use Rattle.std.specs.List.{AllPairs};
 

@@ -1,4 +1,5 @@
 //! A larger table.
+
 ghost use Rattle.std.specs.Prelude.{IfOk, IfSome};
 ghost use Rattle.cm_judge.specs.inner.Table.{EachIsFound, SameRecords};
 

@@ -1,4 +1,5 @@
 //! The cache lines of an entry.
+
 ghost use Rattle.std.specs.Prelude.{◌≡◌, ◌↔◌, ℕ, ◌+◌, ◌*◌, ◌<◌};
 ghost use Rattle.cm_mtrace.specs.Lines.{Covers, IsInRange};
 

@@ -1,4 +1,5 @@
 //! Records of one line put together, and the lines in conflict.
+
 ghost use Rattle.std.specs.Prelude.{◌≡◌, ◌++◌, ◌∷◌, [], List, ℕ, IfOk};
 ghost use Rattle.cm_judge.specs.declared.slots.Record.{Record};
 ghost use Rattle.cm_mtrace.specs.declared.item.Entry.{Entry};

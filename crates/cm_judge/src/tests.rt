@@ -1,4 +1,5 @@
 //! Worked examples, and a plain judge beside the one that is proved.
+
 ghost use Rattle.std.specs.Prelude.{IsTrue};
 ghost use Rattle.cm_mtrace.specs.Lines.{IsInRange};
 

@@ -1,3 +1,5 @@
+//! Bounds on the differences of integers.
+
 ghost use Rattle.std.specs.Prelude.{◌≡◌, ◌<◌, ◌+◌, ◌↔◌, ℕ, ℤ, pos, negsuc, ◌+ℤ◌, ◌-ℤ◌, ◌≤ℤ◌, ◌<ℤ◌, IsTrue, IfOk, OnOk, length};
 ghost use Rattle.cm_order.specs.Differences.{difference, Satisfies, IsSatisfiable, Allows, Keeps, IsLeast};
 ghost use Rattle.cm_order.specs.Shells.{IsClosed};

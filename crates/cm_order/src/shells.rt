@@ -1,3 +1,5 @@
+//! A square matrix that grows by one row and one column at a time.
+
 ghost use Rattle.std.specs.Prelude.{◌≡◌, ◌<◌, ◌≤◌, ◌+◌, ◌*◌, ◌^◌, ℕ, ℤ, ◌+ℤ◌, ◌≤ℤ◌, pos, negsuc, length, FitsSigned, if◌then◌else◌, ◌==◌, max, OnOk};
 ghost use Rattle.std.specs.Int.{w32, int_min};
 ghost use Rattle.cm_order.specs.Shells.{IsProper, extended, lowered, number_at, relaxed, with_edge};

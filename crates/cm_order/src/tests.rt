@@ -1,3 +1,5 @@
+//! Worked examples, and a search over all values of a small range.
+
 ghost use Rattle.std.specs.Prelude.{◌≡◌, ◌<◌, length};
 
 use super::*;

@@ -1,3 +1,5 @@
+//! The deepest model: functions that call each other inside as many brackets as may be open.
+
 ghost use Rattle.std.specs.Prelude.{◌≡◌, ◌<◌, IfOk, [], ◌∷◌};
 ghost use Rattle.cm_model.specs.declared.body.Stmt.TheVariants as stmt;
 ghost use Rattle.cm_samples.specs.Parts as parts;

@@ -1,3 +1,5 @@
+//! A model of two flags.
+
 ghost use Rattle.std.specs.Prelude.{◌≡◌, IfOk, [], ◌∷◌, Some, codes};
 ghost use Rattle.cm_samples.specs.Flags.{open_tables, fire_tables, unset_tables, open_call, set_call, fire_call, mark_call, assume_unused, fire_if_on, is_unset};
 ghost use Rattle.cm_model.specs.declared.ty.Ty.TheVariants as ty;

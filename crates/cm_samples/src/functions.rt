@@ -1,3 +1,5 @@
+//! A model with functions.
+
 ghost use Rattle.std.specs.Prelude.{◌≡◌, IfOk, [], ◌∷◌};
 ghost use Rattle.cm_samples.specs.Functions.{routines_tables, mark_fun, need_fun, tell_call, must_call, both_call, either_call};
 

@@ -1,3 +1,5 @@
+//! A model with an option.
+
 ghost use Rattle.std.specs.Prelude.{◌≡◌, IfOk, [], ◌∷◌};
 ghost use Rattle.cm_samples.specs.Parts as parts;
 ghost use Rattle.cm_samples.specs.Options.{payloads_tables, optional, two_options, payload_or, payload_call};

@@ -1,3 +1,5 @@
+//! What the models are made of.
+
 ghost use Rattle.std.specs.Prelude.{◌≡◌, IfOk, [], ◌∷◌, Some, None};
 ghost use Rattle.cm_model.specs.declared.ty.Ty.TheVariants as ty;
 ghost use Rattle.cm_model.specs.declared.body.Expr.TheVariants as expr;

@@ -1,3 +1,5 @@
+//! A model with a record.
+
 ghost use Rattle.std.specs.Prelude.{◌≡◌, IfOk, [], ◌∷◌};
 ghost use Rattle.cm_samples.specs.Parts as parts;
 ghost use Rattle.cm_samples.specs.Points.{records_tables, point, points_and_elements, right_and_left, fill_it, fill_call, first_call};

@@ -1,3 +1,5 @@
+//! Tests of the evaluator and of worlds on the sample models.
+
 mod calls;
 mod deep;
 mod definitions;

@@ -1,4 +1,5 @@
-// The models without invariants: replies, decisions, touched cells and states that were worked out by hand.
+//! The models without invariants: replies, decisions, touched cells and states that were worked out by hand.
+
 use super::table::{Run, held, read, row, runs, written};
 use super::values::Given;
 use super::values::Given::{Elem, Flag, Number, SomeElem};

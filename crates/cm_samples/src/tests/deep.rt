@@ -1,4 +1,5 @@
-// The deepest functions run on the ordinary stack.
+//! The deepest functions run on the ordinary stack.
+
 use super::table::replies_after;
 use super::values::Given::Flag;
 use crate::deepest;

@@ -1,4 +1,5 @@
-// The definitions compute: a contract with an empty body is a worked example.
+//! The definitions compute: a contract with an empty body is a worked example.
+
 ghost use Rattle.std.specs.Prelude.{◌≡◌, pos, true, false, [], ◌∷◌, Some, None};
 ghost use Rattle.cm_value.specs.declared.value.Value.TheVariants as value;
 ghost use Rattle.cm_eval.specs.State.{Touched, store};

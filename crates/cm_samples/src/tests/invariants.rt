@@ -1,4 +1,5 @@
-// The models with invariants.
+//! The models with invariants.
+
 use super::table::{Run, held, read, row, runs, written};
 use super::values::Given::{Elem, Flag, Number};
 use super::values::{Given, value_of};

@@ -1,4 +1,5 @@
-// Functions, records and options: what is evaluated in which order, and what is left out.
+//! Functions, records and options: what is evaluated in which order, and what is left out.
+
 use super::table::{Run, held, read, row, runs, written};
 use super::values::Given;
 use super::values::Given::{Elem, Elems, Flag, SomeElem};

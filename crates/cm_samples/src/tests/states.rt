@@ -1,4 +1,5 @@
-// What a state holds.
+//! What a state holds.
+
 ghost use Rattle.std.specs.Prelude.{◌<◌, length};
 
 use super::values::Given::Elem;

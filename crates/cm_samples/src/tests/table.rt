@@ -1,4 +1,5 @@
-// Runs of calls and worlds of pairs, as tables of what is given and what is wanted.
+//! Runs of calls and worlds of pairs, as tables of what is given and what is wanted.
+
 ghost use Rattle.cm_world.specs.World.{IsWorldOf};
 
 use super::values::{Given, is, value_of, values_of};

@@ -1,4 +1,5 @@
-// Values as tests write them. A contract knows that their numbers are small.
+//! Values as tests write them. A contract knows that their numbers are small.
+
 ghost use Rattle.std.specs.Prelude.{IfOk, IsTrue};
 ghost use Rattle.cm_value.specs.Limits.{is_limited};
 ghost use Rattle.cm_eval.specs.Limits.{are_limited};

@@ -1,4 +1,5 @@
-// Worlds of pairs: their paths, and whether they commute, worked out by hand.
+//! Worlds of pairs: their paths, and whether they commute, worked out by hand.
+
 use super::table::{HeldCell, Placed, has_path, held, is_world};
 use super::values::Given;
 use super::values::Given::{Elem, Flag, Number, SomeElem};
