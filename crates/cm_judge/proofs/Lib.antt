@@ -5,3 +5,4 @@ pub mod Same
 pub mod Merges
 pub mod Notes
 pub mod Found
+pub mod Listed

@@ -18,7 +18,7 @@ use Rattle.cm_judge.specs.declared.summary.LineSummary.{LineSummary}
 use Rattle.cm_judge.specs.declared.slots.Record.{Record}
 use Rattle.cm_judge.specs.Conflicts.{AreConflictLines, ConflictAt, IsConflictLine}
 use Rattle.cm_judge.specs.Judge.{KeepLine, StandsFor}
-use Rattle.cm_judge.specs.inner.Table.{HasOneEach, KeepWhat, SameRecords}
+use Rattle.cm_judge.specs.inner.Table.{AreFound, HasOneEach, KeepWhat, SameRecords}
 use Rattle.cm_judge.specs.Summary.{AreBoundsOf, cores_of, IsSummaryOf, IsWithin, Touches, union_of}
 use Rattle.cm_judge.proofs.Accesses.{a≢other}
 use Rattle.cm_judge.proofs.Keeps.{any_of, bounds_some, max_cases, min_cases, Replaces}
@@ -154,7 +154,7 @@ one_summary records entries r one stands has aligned who kind judged =
           );
     }
 
-conflict_aligned : (entries : List Entry) (line : ℕ) → IsConflictLine entries line → line % 64 ≡ 0
+pub conflict_aligned : (entries : List Entry) (line : ℕ) → IsConflictLine entries line → line % 64 ≡ 0
 conflict_aligned entries line conflict = let meets : ConflictAt conflict.1 conflict.4.1 line = conflict.4.4 in meets.first_covers.aligned
 
 -- a line in conflict has a record
@@ -245,12 +245,7 @@ join_push sorted all last r rest apart h =
       order = order_next last (r ∷ rest) h.order;
     }
 
--- the lines in conflict of the records done
-pub record AreFound (records : List Record) (done : List Record) (lines : List ℕ) : Type 0 where
-  pub sound : (entries : List Entry) → StandsFor records entries → (line : ℕ) → Contains lines line → IsConflictLine entries line
-  pub complete : (entries : List Entry) → StandsFor records entries → (r : Record) → Contains done r → IsConflictLine entries r.line → Contains lines r.line
-
-found_more : (records done : List Record) (lines : List ℕ) (r : Record) → HasOneEach records → Contains records r → r.line % 64 ≡ 0 → ((entries : List Entry) → IsSummaryOf r.summary entries r.line → IsConflictLine entries r.line) → AreFound records done lines → AreFound records (done ++ r ∷ []) (lines ++ r.line ∷ [])
+pub found_more : (records done : List Record) (lines : List ℕ) (r : Record) → HasOneEach records → Contains records r → r.line % 64 ≡ 0 → ((entries : List Entry) → IsSummaryOf r.summary entries r.line → IsConflictLine entries r.line) → AreFound records done lines → AreFound records (done ++ r ∷ []) (lines ++ r.line ∷ [])
 found_more records done lines r one has aligned disputed h =
     record {
       sound = λ entries stands line in_lines. elim (Contains-push_cases lines r.line line in_lines) [

@@ -6,7 +6,7 @@ ghost use Rattle.cm_mtrace.specs.declared.item.Entry.{Entry};
 ghost use Rattle.std.specs.List.Sorted.{IsNonDecreasingBy};
 ghost use Rattle.cm_judge.specs.Conflicts.{AreConflictLines};
 ghost use Rattle.cm_judge.specs.Judge.{StandsFor};
-ghost use Rattle.cm_judge.specs.inner.Table.{HasOneEach, KeepWhat};
+ghost use Rattle.cm_judge.specs.inner.Table.{AreFound, HasOneEach, KeepWhat, ListsLines};
 
 use crate::slots::Record;
 use cm_model::NoMemory;
@@ -44,6 +44,16 @@ pub(crate) fn merged(alloc: Global, mut records: Vec<Record>) -> Result<Vec<Reco
     joined(alloc, records.as_slice())
 }
 
+// The lines found, in order, each once.
+fn ordered(mut found: Vec<u64>) -> Vec<u64>
+    ensures { (records : List Record) (entries : List Entry) → AreFound records records found.items → StandsFor records entries
+        → AreConflictLines entries result.items }
+{
+    found.sort_unstable();
+    found.dedup();
+    found
+}
+
 /// The lines in conflict, ascending, each once.
 pub(crate) fn conflict_lines(alloc: Global, records: &[Record]) -> Result<Vec<u64>, NoMemory>
     requires { HasOneEach records.now }
@@ -55,7 +65,25 @@ pub(crate) fn conflict_lines(alloc: Global, records: &[Record]) -> Result<Vec<u6
             lines.push(record.line)?;
         }
     }
-    lines.sort_unstable();
-    lines.dedup();
-    Ok(lines)
+    Ok(ordered(lines))
+}
+
+/// The same, where the records that have a line are listed.
+pub(crate) fn conflict_listed(
+    alloc: Global,
+    records: &[Record],
+    used: &[usize],
+) -> Result<Vec<u64>, NoMemory>
+    requires one_each { HasOneEach records.now }
+    requires listed { ListsLines records.now used.now }
+    ensures { IfOk result (λ lines. (entries : List Entry) → StandsFor records.now entries → AreConflictLines entries lines.items) }
+{
+    let mut lines = Vec::new(alloc);
+    for k in used {
+        let record = &records[*k];
+        if record.is_conflict() {
+            lines.push(record.line)?;
+        }
+    }
+    Ok(ordered(lines))
 }

@@ -1,17 +1,16 @@
 //! A hash table of the lines of a section.
-
-ghost use Rattle.std.specs.Prelude.{◌≡◌, ◌≢◌, ◌+◌, ◌≤◌, ◌<◌, ◌%◌, [], ◌++◌, List, All, IsTrue, false, IfOk, OnOk, OnErr, slice_set, vec_len, vec_capacity};
+ghost use Rattle.std.specs.Prelude.{◌≡◌, ◌≢◌, ◌+◌, ◌≤◌, ◌<◌, ◌%◌, [], ◌∷◌, ◌++◌, List, All, IsTrue, true, false, IfOk, OnOk, OnErr, slice_set, vec_len, vec_capacity};
 ghost use Rattle.cm_mtrace.specs.Lines.{Covers};
 ghost use Rattle.cm_mtrace.specs.declared.item.Entry.{Entry};
 ghost use Rattle.cm_mtrace.specs.declared.item.Who.TheVariants.{Other};
 ghost use Rattle.cm_judge.specs.Conflicts.{AreConflictLines};
 ghost use Rattle.cm_judge.specs.Judge.{StandsFor};
 ghost use Rattle.cm_judge.specs.declared.slots.Record.{Record};
-ghost use Rattle.cm_judge.specs.inner.Table.{Notes, SameRecords};
+ghost use Rattle.cm_judge.specs.inner.Table.{ListsLines, Notes, SameRecords};
 
 use crate::grow::{grown, limit_of};
 use crate::line::Lines;
-use crate::merge::conflict_lines;
+use crate::merge::{conflict_lines, conflict_listed};
 use crate::slots::{Place, Record, first_record, place_for};
 use cm_model::NoMemory;
 use cm_mtrace::Entry;
@@ -22,6 +21,9 @@ use std::marker::Model;
 #[derive(Debug, Drop)]
 pub(crate) struct Table {
     slots: Vec<Record>,
+    // The slots that have a line, where they are few.
+    used: Vec<usize>,
+    is_listed: bool,
     // How many slots have a line, and how many may before the table grows.
     held: usize,
     limit: usize,
@@ -30,13 +32,39 @@ pub(crate) struct Table {
 impl Model for Table {
     ghost use Rattle.std.specs.Prelude.{List};
     ghost use Rattle.cm_judge.specs.declared.slots.Record.{Record};
-    ghost use Rattle.cm_judge.specs.inner.Table.{EachIsFound};
+    ghost use Rattle.cm_judge.specs.inner.Table.{IsTable};
 
     ghost Value = { List Record };
 
     ghost view = { λ t. t.slots.items };
 
-    ghost invariant = { λ t. EachIsFound t.slots.items };
+    ghost invariant = { λ t. IsTable t.slots.items t.used.items t.is_listed };
+}
+
+// How many slots are listed. Where more have a line, all slots are gone over.
+const FEW: usize = 512;
+
+// Lists one slot more, if few are listed. Tells whether those that have a line are still listed.
+#[inline(always)]
+fn list_slot(used: &mut Vec<usize>, is_listed: bool, k: usize) -> bool
+    ensures { result ≡ true → (is_listed ≡ true) × (used.new.items ≡ used.old.items ++ k ∷ []) }
+{
+    if used.len() >= FEW {
+        return false;
+    }
+    match used.push(k) {
+        Ok(()) => is_listed,
+        Err(_) => false,
+    }
+}
+
+fn free_listed(slots: &mut [Record], used: &[usize])
+    requires { ListsLines slots.old used.now }
+    ensures { All (λ (r : Record). r.line % 64 ≢ 0) slots.new }
+{
+    for k in used {
+        slots[*k] = Record::free();
+    }
 }
 
 fn free_all(slots: &mut [Record])
@@ -67,6 +95,8 @@ impl Table {
     {
         Table {
             slots: Vec::new(alloc),
+            used: Vec::new(alloc),
+            is_listed: true,
             held: 0,
             limit: 0,
         }
@@ -87,6 +117,7 @@ impl Table {
     {
         self.slots[k] = filled;
         self.held = self.held.saturating_add(1);
+        self.is_listed = list_slot(&mut self.used, self.is_listed, k);
     }
 
     // Adds an access to what is kept of the line, where the line has a slot, or may get a free one while the
@@ -165,6 +196,7 @@ impl Table {
             Some(larger) => {
                 self.slots = larger;
                 self.limit = limit_of(self.slots.len());
+                self.is_listed = false;
             }
             None => self.limit = self.held.saturating_mul(8),
         }
@@ -175,6 +207,9 @@ impl Table {
     pub(crate) fn conflicts(&self, alloc: Global) -> Result<Vec<u64>, NoMemory>
         ensures { IfOk result (λ lines. (entries : List Entry) → StandsFor self.now entries → AreConflictLines entries lines.items) }
     {
+        if self.is_listed {
+            return conflict_listed(alloc, self.slots.as_slice(), self.used.as_slice());
+        }
         conflict_lines(alloc, self.slots.as_slice())
     }
 
@@ -192,9 +227,13 @@ impl Table {
         if self.slots.len() / 16 > self.held.saturating_add(64) {
             self.slots = Vec::new(alloc);
             self.limit = 0;
+        } else if self.is_listed {
+            free_listed(self.slots.as_mut_slice(), self.used.as_slice());
         } else {
             free_all(self.slots.as_mut_slice());
         }
+        self.used.clear();
+        self.is_listed = true;
         self.held = 0;
     }
 }

@@ -1,8 +1,9 @@
 -- The table of a judge: where it may have a line, and what its records keep as they are moved and put together.
-use Rattle.std.specs.Prelude.{◌≡◌, ◌≢◌, ◌↔◌, ℕ, ◌+◌, ◌-◌, ◌*◌, ◌/◌, ◌%◌, ◌^◌, ◌<◌, ◌≤◌, ◌⊎◌, ◌++◌, [], ◌∷◌, List, Contains, length, slice_index_or, min}
+use Rattle.std.specs.Prelude.{◌≡◌, ◌≢◌, ◌↔◌, ℕ, ◌+◌, ◌-◌, ◌*◌, ◌/◌, ◌%◌, ◌^◌, ◌<◌, ◌≤◌, ◌⊎◌, ◌++◌, [], ◌∷◌, All, Bool, true, List, Contains, length, slice_index_or, min}
 use Rattle.cm_mtrace.specs.declared.item.Entry.{Entry}
 use Rattle.cm_mtrace.specs.Lines.{Covers}
-use Rattle.cm_judge.specs.Judge.{KeepLine}
+use Rattle.cm_judge.specs.Conflicts.{IsConflictLine}
+use Rattle.cm_judge.specs.Judge.{KeepLine, StandsFor}
 use Rattle.cm_judge.specs.declared.line.Lines.{Lines}
 use Rattle.cm_judge.specs.declared.slots.Record.{Record}
 use Rattle.cm_judge.specs.declared.slots.Place.{Place}
@@ -41,6 +42,16 @@ abbrev pub EachIsFound : List Record → Type 0
 EachIsFound slots = (k : ℕ) (d : Record) → k < length slots → (slice_index_or slots k d).line % 64 ≡ 0
     → IsPassed slots (slice_index_or slots k d).line k
 
+-- the list has each slot that has a line
+pub record ListsLines (slots : List Record) (used : List ℕ) : Type 0 where
+  pub within : All (λ k. k < length slots) used
+  pub each : (k : ℕ) (d : Record) → k < length slots → (slice_index_or slots k d).line % 64 ≡ 0 → Contains used k
+
+-- what a table keeps: its slots, a list, and whether the list has each slot that has a line
+pub record IsTable (slots : List Record) (used : List ℕ) (is_listed : Bool) : Type 0 where
+  pub found : EachIsFound slots
+  pub listed : is_listed ≡ true → ListsLines slots used
+
 -- the lines that the entry covers, counted from the first
 abbrev pub AreLinesOf : Entry → Lines → Type 0
 AreLinesOf e lines = (line : ℕ) → Covers e line ↔ ((k : ℕ) × (k < lines.count) × (line ≡ lines.first + 64 * k))
@@ -63,3 +74,8 @@ KeepWhat before after = (others : List Record) (entries : List Entry) (line : �
 -- a line has at most one record
 abbrev pub HasOneEach : List Record → Type 0
 HasOneEach records = (q r : Record) → Contains records q → Contains records r → q.line % 64 ≡ 0 → q.line ≡ r.line → q ≡ r
+
+-- the lines in conflict of the records done
+pub record AreFound (records : List Record) (done : List Record) (lines : List ℕ) : Type 0 where
+  pub sound : (entries : List Entry) → StandsFor records entries → (line : ℕ) → Contains lines line → IsConflictLine entries line
+  pub complete : (entries : List Entry) → StandsFor records entries → (r : Record) → Contains done r → IsConflictLine entries r.line → Contains lines r.line

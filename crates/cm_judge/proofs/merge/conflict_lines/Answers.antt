@@ -1,8 +1,8 @@
-use Rattle.std.proofs.Common.{List, eqb, subst}
+use Rattle.std.proofs.Common.{List, subst}
 use Rattle.std.proofs.lemmas.List.{take_all}
-use Rattle.std.proofs.lemmas.List.Filters.{dedup_is}
 use Rattle.cm_judge.specs.declared.slots.Record.{Record}
-use Rattle.cm_judge.proofs.Merges.{all_found, AreFound, found_calm, found_more_at}
+use Rattle.cm_judge.specs.inner.Table.{AreFound}
+use Rattle.cm_judge.proofs.Merges.{found_calm, found_more_at}
 use Rattle.cm_judge.proofs.merge.conflict_lines.Goals as goal
 use Rattle.cm_judge.proofs.merge.conflict_lines.Goals.{then-is_conflict+in_ok-push, else-is_conflict}
 
@@ -19,8 +19,6 @@ loop-record-preserved c =
     ]
 
 pub returns : goal.returns
-returns c =
+returns c entries stands =
     let records = c.args.records.now in
-    let found = c.loop-record.lines.items in
-    let sorted = c.sort_unstable.new.self.items in
-    all_found records found sorted c.dedup.new.self.items c.sort_unstable.ensures.permutation c.sort_unstable.ensures.sorted (dedup_is eqb sorted c.dedup.new.self.items c.dedup.ensures.filtered) (subst (λ (l : List Record). AreFound records l found) (take_all c.loop-record.record-index records c.loop-record-test.false) c.loop-record.invariant)
+    c.ordered.ensures records entries (subst (λ (l : List Record). AreFound records l c.loop-record.lines.items) (take_all c.loop-record.record-index records c.loop-record-test.false) c.loop-record.invariant) stands
