@@ -1,3 +1,5 @@
+//! Why a stream is no trace.
+
 use thiserror::Error;
 
 /// Why a trace is refused.

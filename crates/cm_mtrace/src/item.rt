@@ -1,3 +1,5 @@
+//! What stands in a trace.
+
 use cm_model::Name;
 
 /// The call that an access belongs to: one of the two that are judged, or neither.

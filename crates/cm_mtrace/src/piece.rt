@@ -1,4 +1,5 @@
-// A piece of a stream, behind an open line.
+//! A piece of a stream, behind an open line.
+
 ghost use Rattle.std.specs.Prelude.{◌≡◌, ◌++◌, ◌+◌, ◌-◌, ◌^◌, ◌<◌, ◌≤◌, [], ◌∷◌, codes, length, IfOk, MatchBool, MatchResult, OnErr};
 ghost use Rattle.cm_mtrace.specs.Reading.{BadNext, IsKept, IsLine, Reaches, Reads};
 

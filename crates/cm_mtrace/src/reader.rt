@@ -1,4 +1,5 @@
-// A trace from a stream.
+//! A trace from a stream.
+
 ghost use Rattle.std.specs.Prelude.{◌≡◌, ℕ, List, ◌++◌, ◌+◌, ◌-◌, ◌^◌, ◌<◌, ◌≤◌, All, length, take, IfErr, IfOk, IfSome, OnOk};
 ghost use Rattle.cm_mtrace.specs.declared.item.Item.{Item};
 ghost use Rattle.cm_mtrace.specs.Trace.{GiveItems, IsBadLine, IsItem, IsTrace, Section, items_of, whole_lines};

@@ -1,4 +1,5 @@
-// The lines of a text, one after another.
+//! The lines of a text, one after another.
+
 ghost use Rattle.std.specs.Prelude.{◌≡◌, ◌-◌, ◌+◌, ◌^◌, ◌<◌, ◌≤◌, ℕ, List, length, IfOk, MatchOption};
 ghost use Rattle.cm_mtrace.specs.Reading.{Ends, Reads, SectionSteps, Steps};
 ghost use Rattle.cm_mtrace.specs.declared.item.Item.{Item};

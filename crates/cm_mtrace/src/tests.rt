@@ -1,3 +1,5 @@
+//! Worked traces, and every cut of a small one.
+
 use super::*;
 use std::alloc::Global;
 use std::test::Fail;

@@ -1,4 +1,5 @@
-// A cursor in a text, with its place.
+//! A cursor in a text, with its place.
+
 ghost use Rattle.std.specs.Prelude.{◌≡◌, ◌+◌, ◌-◌, ◌^◌, ◌<◌, ◌≤◌, drop, length, slice_get, MatchOption};
 ghost use Rattle.std.specs.List.{prefix_len};
 ghost use Rattle.cm_text.specs.Place.{is_in_line, place_in};

@@ -1,3 +1,5 @@
+//! Digits.
+
 ghost use Rattle.std.specs.Prelude.{◌≡◌, ◌≤◌, MatchOption};
 ghost use Rattle.std.specs.Char.{digit_value};
 ghost use Rattle.cm_text.specs.Numeral.{IsDigit};

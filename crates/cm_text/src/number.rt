@@ -1,4 +1,5 @@
-// A number at the front of a text.
+//! A number at the front of a text.
+
 ghost use Rattle.std.specs.Prelude.{◌≡◌, ◌≢◌, ℕ, ◌+◌, ◌*◌, List, ◌++◌, ◌≤◌, ◌<◌, ◌^◌, ◌%◌, decimal, length, slice_index, take, MatchBool, MatchOption};
 ghost use Rattle.std.specs.Str.Parse.{digits_value};
 ghost use Rattle.cm_text.specs.Numeral.{BeginsWithDigit, hexadecimal, numeral};

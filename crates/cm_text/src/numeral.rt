@@ -1,4 +1,5 @@
-// A text that is a numeral whole.
+//! A text that is a numeral whole.
+
 ghost use Rattle.std.specs.Prelude.{◌≡◌, ◌≢◌, ℕ, ◌++◌, ◌≤◌, ◌<◌, ◌^◌, decimal, IfOk, IfErr, OnOk, OnErr};
 ghost use Rattle.cm_text.specs.Numeral.{hexadecimal};
 

@@ -1,3 +1,5 @@
+//! Worked numerals and places.
+
 use super::*;
 use cm_model::Place;
 use std::test::Fail;
