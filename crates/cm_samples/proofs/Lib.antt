@@ -11,3 +11,4 @@ pub mod Deep
 pub mod TypedDepth
 pub mod Meanings
 pub mod ExamplesCompute
+pub mod ExamplesOfPairs

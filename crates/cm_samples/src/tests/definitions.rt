@@ -6,7 +6,11 @@ ghost use Rattle.cm_eval.specs.State.{Touched, store};
 ghost use Rattle.cm_eval.specs.Evaluation.{named};
 ghost use Rattle.cm_eval.specs.Run.{Ended, Stopped, evaluation_of};
 ghost use Rattle.cm_samples.specs.Examples.{untouched, touches, pair, world};
+ghost use Rattle.cm_model.specs.declared.pair.Over.TheVariants as over;
 ghost use Rattle.cm_world.specs.Path.{path_of_world};
+ghost use Rattle.cm_world.specs.Shape.{shape_of, signature_of};
+ghost use Rattle.cm_world.specs.OpenPrefix.{IsOpenPrefix};
+ghost use Rattle.cm_world.specs.Over.{IsOverBy};
 ghost use Rattle.cm_samples.specs.Counters.{inc_tables, bounded_tables, next_tables};
 ghost use Rattle.cm_samples.specs.Flags.{open_tables};
 
@@ -49,6 +53,27 @@ fn open_twice()
     ensures { path_of_world open_tables (pair 0 0) (world (store (value.Tag 0 ∷ []) []) (value.Elem 0 ∷ []) (value.Elem 0 ∷ [])) ≡ 0 ∷ 1 ∷ 0 ∷ 0 ∷ 1 ∷ 0 ∷ [] }
 {}
 
+/// Both arguments are the first element that appears; a bool has no number in the shape.
+fn open_twice_has_one_element()
+    ensures { shape_of open_tables (pair 0 0) (world (store (value.Tag 0 ∷ []) []) (value.Elem 7 ∷ []) (value.Elem 7 ∷ [])) ≡ 0 ∷ 0 ∷ [] }
+{}
+
+/// The signature is the path with the shape.
+fn open_twice_has_this_signature()
+    ensures { signature_of open_tables (pair 0 0) (world (store (value.Tag 0 ∷ []) []) (value.Elem 7 ∷ []) (value.Elem 7 ∷ []))
+        ≡ record { path = 0 ∷ 1 ∷ 0 ∷ 0 ∷ 1 ∷ 0 ∷ []; shape = 0 ∷ 0 ∷ [] } }
+{}
+
+/// 1, 2 is a path, from the number 2, and 2 is one, from 3.
+fn inc_parts_at_its_first_decision()
+    ensures { IsOpenPrefix inc_tables (pair 0 0) (1 ∷ []) }
+{}
+
+/// The same two paths are more than one.
+fn inc_has_more_paths_than_one()
+    ensures { IsOverBy inc_tables (pair 0 0) 1 over.Paths }
+{}
+
 #[test]
 fn the_definitions_compute() {
     inc_at_3();
@@ -58,4 +83,8 @@ fn the_definitions_compute() {
     open_unused();
     inc_twice_at_2();
     open_twice();
+    open_twice_has_one_element();
+    open_twice_has_this_signature();
+    inc_parts_at_its_first_decision();
+    inc_has_more_paths_than_one();
 }
