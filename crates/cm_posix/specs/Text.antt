@@ -285,5 +285,5 @@ posix_lines =
     ∷ codes "}"
     ∷ []
 
-abbrev pub posix_model : List ℕ
+unfoldable pub posix_model : List ℕ
 posix_model = text_of_lines posix_lines

@@ -5,6 +5,7 @@ ghost use Rattle.std.specs.Prelude.{◌≡◌};
 ghost use Rattle.cm_posix.specs.Text.{posix_model};
 
 /// The model's text.
+#[tactic(auto, unfolding(crate::specs::Text::posix_model))]
 pub fn posix_text() -> &'static [u8]
     ensures { result.now ≡ posix_model }
 {

@@ -1,4 +1,5 @@
 pub mod Causes
+pub mod Endings
 pub mod Files
 pub mod Judgements
 pub mod Parts

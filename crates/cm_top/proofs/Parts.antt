@@ -7,7 +7,7 @@ use Rattle.std.proofs.lemmas.List.Concat.{flat_map-append}
 use Rattle.std.proofs.Math.Seq.{take-append-add}
 use Rattle.cm_io.specs.Causes.{Rose}
 use Rattle.cm_io.specs.Sink.{PutTakes, TakesPart}
-use Rattle.cm_top.specs.Command.{Tells}
+use Rattle.cm_top.specs.Endings.{Tells}
 use Rattle.cm_top.specs.Output.{TakesFront, joined}
 use Rattle.cm_top.specs.Pieces.{PutsAll}
 

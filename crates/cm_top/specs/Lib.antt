@@ -1,7 +1,10 @@
-pub mod Command
+pub mod Endings
 pub mod Fetch
+pub mod Files
+pub mod Judging
 pub mod Output
 pub mod Pieces
 pub mod Run
 pub mod Sections
 pub mod Status
+pub mod Tasks

@@ -33,20 +33,20 @@ section_texts (s ∷ sections) [] = []
 section_texts (s ∷ sections) (ls ∷ lines) = section_text s.name ls ∷ section_texts sections lines
 
 -- conflicts where some section has one, and else done
-abbrev pub status_of : List (List ℕ) → Status
-status_of [] = Done
-status_of ([] ∷ lines) = status_of lines
-status_of ((x ∷ xs) ∷ lines) = Conflicts
+abbrev pub judge_status : List (List ℕ) → Status
+judge_status [] = Done
+judge_status ([] ∷ lines) = judge_status lines
+judge_status ((x ∷ xs) ∷ lines) = Conflicts
 
 -- one of the two
 abbrev pub IsEnd : Status → Type 0
 IsEnd status = (status ≡ Done) ⊎ (status ≡ Conflicts)
 
 -- what is wanted for a trace: the pieces of the output, in order, and the status
-abbrev pub IsWanted : List ℕ → List (List ℕ) → Status → Type 0
-IsWanted bytes pieces status =
+abbrev pub IsJudgement : List ℕ → List (List ℕ) → Status → Type 0
+IsJudgement bytes pieces status =
     (sections : List Section) × (lines : List (List ℕ)) × IsTrace sections bytes × AreAllConflicts sections lines
-    × (pieces ≡ header ∷ (section_texts sections lines ++ closing ∷ [])) × (status ≡ status_of lines)
+    × (pieces ≡ header ∷ (section_texts sections lines ++ closing ∷ [])) × (status ≡ judge_status lines)
 
 abbrev pub joined : List (List ℕ) → List ℕ
 joined pieces = flat_map (λ p. p) pieces

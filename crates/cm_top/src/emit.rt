@@ -17,8 +17,8 @@ pub enum Cut {
     Memory,
 }
 
-// Puts a piece.
-fn put_piece<O: Sink>(out: &mut O, piece: &[u8]) -> Result<(), Cut>
+/// Puts a piece.
+pub fn put_piece<O: Sink>(out: &mut O, piece: &[u8]) -> Result<(), Cut>
     ensures taken { PutTakes (O.written out.old) (O.written out.new) result piece.now }
     ensures later { O.faults out.old ≤ O.faults out.new }
     ensures cause { IsErrOf result Cut.WriteFault → Rose (O.faults out.old) (O.faults out.new) }

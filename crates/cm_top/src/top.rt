@@ -1,49 +1,85 @@
 // The top call.
-ghost use Rattle.std.specs.Prelude.{◌≡◌, ◌≢◌, ◌⊎◌, ◌↔◌, ◌<◌, ◌≤◌, ℕ, List, [], Some, None, length, map, string_bytes};
+ghost use Rattle.std.specs.Prelude.{◌≡◌, ◌≢◌, ◌⊎◌, ℕ, List, map, string_bytes};
 ghost use Rattle.cm_io.specs.Causes.{Rose};
-ghost use Rattle.cm_mtrace.specs.Trace.{IsTrace, Section};
-ghost use Rattle.cm_top.specs.Command.{IsCutShort, IsJudge, IsJudged, IsNoCommand, IsNoTrace, IsQuiet, IsRefusedAt, IsWithin, Tells, told_text};
-ghost use Rattle.cm_top.specs.Fetch.{OfFile};
+ghost use Rattle.cm_words.specs.Tasks.{HasNoTask, IsTaskOf};
+ghost use Rattle.cm_words.specs.declared.task.Task.{Task};
+ghost use Rattle.cm_top.specs.Endings.{IsAnswered, IsCutShort, IsEnding, IsEndingOn, IsQuiet, IsTooLong, Outside, Tells, status_of, told_text};
+ghost use Rattle.cm_top.specs.Files.{AreHeld, AreWithin, OfFiles, SomeInput};
 ghost use Rattle.cm_top.specs.Output.{IsEnd};
+ghost use Rattle.cm_top.specs.Tasks.{Accepts, inputs_of};
+ghost use Rattle.cm_top.specs.declared.outcome.Outcome.{Outcome};
 
-use crate::Status;
-use crate::command::judge_file;
-use crate::fetch::LIMIT;
-use crate::stop::Stop;
+use crate::outcome::Outcome;
 use crate::tell::tell;
-use crate::words::file_of;
+use crate::{Status, judge, posix};
 use cm_io::{Shelf, Sink};
+use cm_words::{Task, WordsFault, read_words};
 use std::alloc::Global;
 
-// How a run ended, and for a refusal the line.
-#[derive(Clone, Copy)]
-struct Outcome {
-    status: Status,
-    line: u64,
+// Runs a task: a line a command.
+fn run<'a, S: Shelf, O: Sink>(
+    alloc: Global,
+    task: &'a Task,
+    shelf: &mut S,
+    out: &mut O,
+) -> Outcome<'a>
+    ensures {
+        IsEnding task.now (record {
+            held = S.held shelf.old;
+            before = S.faults shelf.old;
+            now = S.faults shelf.new;
+            old = O.written out.old;
+            new = O.written out.new;
+            put_before = O.faults out.old;
+            put_now = O.faults out.new;
+        }) result
+    }
+{
+    match task {
+        Task::Judge { file } => judge::run(alloc, file.as_str(), shelf, out),
+        Task::Posix => posix::run(out),
+    }
 }
 
-fn run_file<S: Shelf, O: Sink>(alloc: Global, file: &str, shelf: &mut S, out: &mut O) -> Outcome
-    ensures judged { IsEnd result.status → OfFile (S.held shelf.old file.now) (IsJudged (O.written out.old) (O.written out.new) result.status) }
-    ensures usage { result.status ≢ Status.Usage }
-    ensures over { result.status ≢ Status.Over }
-    ensures read_fault { result.status ≡ Status.ReadFault → Rose (S.faults shelf.old file.now) (S.faults shelf.new file.now) }
-    ensures too_long { result.status ≡ Status.TooLong → OfFile (S.held shelf.old file.now) (λ bytes. LIMIT < length bytes) }
-    ensures refused { result.status ≡ Status.Refused → OfFile (S.held shelf.old file.now) (IsRefusedAt result.line) }
-    ensures write_fault { result.status ≡ Status.WriteFault → Rose (O.faults out.old) (O.faults out.new) }
-    ensures cut_short { result.status ≡ Status.WriteFault → OfFile (S.held shelf.old file.now) (IsCutShort (O.written out.old) (O.written out.new)) }
-    ensures memory { result.status ≡ Status.Memory → (O.written out.new ≡ O.written out.old)
-        ⊎ OfFile (S.held shelf.old file.now) (IsCutShort (O.written out.old) (O.written out.new)) }
-    ensures quiet { IsQuiet result.status → O.written out.new ≡ O.written out.old }
+// Tells an outcome, and gives its status.
+fn end<E: Sink>(err: &mut E, outcome: &Outcome<'_>) -> Status
+    ensures status { result ≡ status_of outcome.now }
+    ensures told { Tells (E.written err.old) (E.written err.new) (E.faults err.old) (E.faults err.new) (told_text outcome.now) }
 {
-    let (status, line) = match judge_file(alloc, file, shelf, out) {
-        Ok(status) => (status, 0),
-        Err(Stop::ReadFault) => (Status::ReadFault, 0),
-        Err(Stop::TooLong) => (Status::TooLong, 0),
-        Err(Stop::Refused { line }) => (Status::Refused, line),
-        Err(Stop::WriteFault) => (Status::WriteFault, 0),
-        Err(Stop::Memory) => (Status::Memory, 0),
-    };
-    Outcome { status, line }
+    tell(err, outcome);
+    outcome.status()
+}
+
+// Runs the task of the words, and tells how that ended.
+fn answer<S: Shelf, O: Sink, E: Sink>(
+    alloc: Global,
+    words: &[String],
+    shelf: &mut S,
+    out: &mut O,
+    err: &mut E,
+) -> Status
+    ensures {
+        (outcome : Outcome) × (result ≡ status_of outcome)
+        × Tells (E.written err.old) (E.written err.new) (E.faults err.old) (E.faults err.new) (told_text outcome)
+        × IsEndingOn (map string_bytes words.now) (record {
+            held = S.held shelf.old;
+            before = S.faults shelf.old;
+            now = S.faults shelf.new;
+            old = O.written out.old;
+            new = O.written out.new;
+            put_before = O.faults out.old;
+            put_now = O.faults out.new;
+        }) outcome
+    }
+{
+    match read_words(alloc, words) {
+        Ok(task) => {
+            let outcome = run(alloc, &task, shelf, out);
+            end(err, &outcome)
+        }
+        Err(WordsFault::Usage) => end(err, &Outcome::Usage),
+        Err(WordsFault::Memory) => end(err, &Outcome::Memory),
+    }
 }
 
 /// Runs the program on the words of its command line, without the program's name. It reads files from `shelf`, puts the
@@ -55,60 +91,65 @@ pub fn commuter<S: Shelf, O: Sink, E: Sink>(
     out: &mut O,
     err: &mut E,
 ) -> Status
-    // At Done and Conflicts the file is a trace within the limit, and the output is what is wanted, whole.
-    ensures judged { (file : List ℕ) → IsJudge (map string_bytes words.now) file → IsEnd result
-        → OfFile (S.held shelf.old file) (IsJudged (O.written out.old) (O.written out.new) result) }
+    // At Done and Conflicts the files are within their limits, and the output is what is wanted of the task, whole.
+    ensures answered { (task : Task) → IsTaskOf (map string_bytes words.now) task → IsEnd result
+        → OfFiles (S.held shelf.old) (inputs_of task) (IsAnswered task (O.written out.old) (O.written out.new) result) }
 
-    // Usage comes exactly where the words are no command, and Over never.
-    ensures usage { result ≡ Status.Usage → IsNoCommand (map string_bytes words.now) }
-    ensures no_command { IsNoCommand (map string_bytes words.now) → result ≡ Status.Usage }
+    // Usage comes exactly where the words have no task, and Over never.
+    ensures usage { result ≡ Status.Usage → HasNoTask (map string_bytes words.now) }
+    ensures no_command { HasNoTask (map string_bytes words.now) → (result ≡ Status.Usage) ⊎ (result ≡ Status.Memory) }
     ensures over { result ≢ Status.Over }
 
-    // ReadFault comes only where the count of the named file rose.
-    ensures read_fault { (file : List ℕ) → IsJudge (map string_bytes words.now) file → result ≡ Status.ReadFault
-        → Rose (S.faults shelf.old file) (S.faults shelf.new file) }
+    // ReadFault comes only where the count of a file of the task rose.
+    ensures read_fault { (task : Task) → IsTaskOf (map string_bytes words.now) task → result ≡ Status.ReadFault
+        → SomeInput (λ i. Rose (S.faults shelf.old i.name) (S.faults shelf.new i.name)) (inputs_of task) }
 
-    // TooLong comes exactly where the file is longer than the limit.
-    ensures too_long { (file : List ℕ) → IsJudge (map string_bytes words.now) file → result ≡ Status.TooLong
-        → OfFile (S.held shelf.old file) (λ bytes. LIMIT < length bytes) }
-    ensures long { (file bytes : List ℕ) → IsJudge (map string_bytes words.now) file → S.held shelf.old file ≡ Some (Some bytes)
-        → LIMIT < length bytes → ¬ Rose (S.faults shelf.old file) (S.faults shelf.new file)
+    // TooLong comes exactly where a file is longer than its limit.
+    ensures too_long { (task : Task) → IsTaskOf (map string_bytes words.now) task → result ≡ Status.TooLong
+        → SomeInput (IsTooLong (S.held shelf.old)) (inputs_of task) }
+    ensures long { (task : Task) (files : List (List ℕ)) → IsTaskOf (map string_bytes words.now) task
+        → AreHeld (S.held shelf.old) (inputs_of task) files → ¬ AreWithin (inputs_of task) files
+        → ¬ SomeInput (λ i. Rose (S.faults shelf.old i.name) (S.faults shelf.new i.name)) (inputs_of task)
         → (result ≡ Status.TooLong) ⊎ (result ≡ Status.Memory) }
 
-    // Refused comes exactly where the file, within the limit, is no trace.
-    ensures refused { (file : List ℕ) → IsJudge (map string_bytes words.now) file → result ≡ Status.Refused
-        → OfFile (S.held shelf.old file) (λ bytes. IsWithin bytes × IsNoTrace bytes) }
-    ensures no_trace { (file bytes : List ℕ) → IsJudge (map string_bytes words.now) file → S.held shelf.old file ≡ Some (Some bytes)
-        → IsWithin bytes → IsNoTrace bytes → ¬ Rose (S.faults shelf.old file) (S.faults shelf.new file)
+    // Refused comes exactly where the files, within their limits, are not what the task reads.
+    ensures refused { (task : Task) → IsTaskOf (map string_bytes words.now) task → result ≡ Status.Refused
+        → OfFiles (S.held shelf.old) (inputs_of task) (λ files. AreWithin (inputs_of task) files × ¬ Accepts task files) }
+    ensures not_accepted { (task : Task) (files : List (List ℕ)) → IsTaskOf (map string_bytes words.now) task
+        → AreHeld (S.held shelf.old) (inputs_of task) files → AreWithin (inputs_of task) files → ¬ Accepts task files
+        → ¬ SomeInput (λ i. Rose (S.faults shelf.old i.name) (S.faults shelf.new i.name)) (inputs_of task)
         → (result ≡ Status.Refused) ⊎ (result ≡ Status.Memory) }
 
-    // WriteFault comes only where the count of `out` rose, after the file was accepted; then and at Memory `out` took a prefix
-    // of the first of the wanted pieces, if any.
+    // WriteFault comes only where the count of `out` rose, after the files were accepted; then and at Memory `out` took a
+    // prefix of the first of the wanted pieces, if any.
     ensures write_fault { result ≡ Status.WriteFault → Rose (O.faults out.old) (O.faults out.new) }
-    ensures cut_short { (file : List ℕ) → IsJudge (map string_bytes words.now) file → result ≡ Status.WriteFault
-        → OfFile (S.held shelf.old file) (IsCutShort (O.written out.old) (O.written out.new)) }
-    ensures memory { (file : List ℕ) → IsJudge (map string_bytes words.now) file → result ≡ Status.Memory
-        → (O.written out.new ≡ O.written out.old) ⊎ OfFile (S.held shelf.old file) (IsCutShort (O.written out.old) (O.written out.new)) }
+    ensures cut_short { (task : Task) → IsTaskOf (map string_bytes words.now) task → result ≡ Status.WriteFault
+        → OfFiles (S.held shelf.old) (inputs_of task) (IsCutShort task (O.written out.old) (O.written out.new)) }
+    ensures memory { (task : Task) → IsTaskOf (map string_bytes words.now) task → result ≡ Status.Memory
+        → (O.written out.new ≡ O.written out.old)
+        ⊎ OfFiles (S.held shelf.old) (inputs_of task) (IsCutShort task (O.written out.old) (O.written out.new)) }
     ensures quiet { IsQuiet result → O.written out.new ≡ O.written out.old }
 
-    // Where nothing fails, a trace within the limit is judged, or memory runs out.
-    ensures complete { (file bytes : List ℕ) (sections : List Section) → IsJudge (map string_bytes words.now) file
-        → S.held shelf.old file ≡ Some (Some bytes) → IsWithin bytes → IsTrace sections bytes
-        → ¬ Rose (S.faults shelf.old file) (S.faults shelf.new file) → ¬ Rose (O.faults out.old) (O.faults out.new)
-        → IsEnd result ⊎ (result ≡ Status.Memory) }
+    // Where nothing fails, files that the task reads are answered, or memory runs out.
+    ensures complete { (task : Task) (files : List (List ℕ)) → IsTaskOf (map string_bytes words.now) task
+        → AreHeld (S.held shelf.old) (inputs_of task) files → AreWithin (inputs_of task) files → Accepts task files
+        → ¬ SomeInput (λ i. Rose (S.faults shelf.old i.name) (S.faults shelf.new i.name)) (inputs_of task)
+        → ¬ Rose (O.faults out.old) (O.faults out.new) → IsEnd result ⊎ (result ≡ Status.Memory) }
 
-    // `err` takes the line on the status, with the first bad line where the file is refused.
-    ensures told { (file : List ℕ) → IsJudge (map string_bytes words.now) file → (line : ℕ)
-        × Tells (E.written err.old) (E.written err.new) (E.faults err.old) (E.faults err.new) (told_text result file line)
-        × (result ≡ Status.Refused → OfFile (S.held shelf.old file) (IsRefusedAt line)) }
-    ensures told_usage { IsNoCommand (map string_bytes words.now)
-        → Tells (E.written err.old) (E.written err.new) (E.faults err.old) (E.faults err.new) (told_text Status.Usage [] 0) }
+    // `err` takes the line on the outcome, which names the file that is at fault and its first bad line.
+    ensures told { (task : Task) → IsTaskOf (map string_bytes words.now) task → (outcome : Outcome) × (result ≡ status_of outcome)
+        × Tells (E.written err.old) (E.written err.new) (E.faults err.old) (E.faults err.new) (told_text outcome)
+        × IsEnding task (record {
+            held = S.held shelf.old;
+            before = S.faults shelf.old;
+            now = S.faults shelf.new;
+            old = O.written out.old;
+            new = O.written out.new;
+            put_before = O.faults out.old;
+            put_now = O.faults out.new;
+        }) outcome }
+    ensures told_usage { result ≡ Status.Usage
+        → Tells (E.written err.old) (E.written err.new) (E.faults err.old) (E.faults err.new) (told_text Outcome.Usage) }
 {
-    let Some(file) = file_of(words) else {
-        tell(err, Status::Usage, "", 0);
-        return Status::Usage;
-    };
-    let outcome = run_file(alloc, file, shelf, out);
-    tell(err, outcome.status, file, outcome.line);
-    outcome.status
+    answer(alloc, words, shelf, out, err)
 }

@@ -1,71 +1,56 @@
-use Rattle.std.proofs.Common.{◌≡◌, ◌⊎◌, ◌<◌, Some, length, map, string_bytes, inl, inr, subst, sym}
-use Rattle.cm_io.specs.Causes.{Rose}
-use Rattle.cm_top.specs.Command.{IsCutShort, IsJudged, IsRefusedAt}
-use Rattle.cm_top.specs.Output.{IsEnd}
-use Rattle.cm_top.specs.declared.fetch.TheConstants.{LIMIT}
-use Rattle.cm_top.specs.declared.status.Status.TheVariants.{Memory, Refused, TooLong}
-use Rattle.cm_top.proofs.Causes.{not_both, not_wanted, of_told, same_file, status_cases}
+use Rattle.cm_top.specs.Endings.{Tells, told_text}
+use Rattle.cm_top.specs.declared.outcome.Outcome.{Outcome}
+use Rattle.cm_top.proofs.Causes as causes
+use Rattle.cm_top.proofs.Endings as ending
 use Rattle.cm_top.proofs.top.commuter.Goals as goal
 
-pub returns-clause-long : goal.returns-clause-long
-returns-clause-long g c file bytes is held long calm =
-    let f = c.in-Some.file.now in
-    let same = same_file (map string_bytes c.args.words.now) f file c.in-Some.ensures is in
-    let e = c.run_file-outcome.ensures in
-    let r = c.run_file-outcome.result in
-    let told = g.S.Shelf.held c.args.shelf.now in
-    let here : told f ≡ Some (Some bytes) = subst (λ n. told n ≡ Some (Some bytes)) (sym same) held in
-    let old = g.O.Sink.written c.args.out.now in
-    let new = g.O.Sink.written c.run_file-outcome.new.out in
-    let quiet = λ (rose : Rose (g.S.Shelf.faults c.args.shelf.now f) (g.S.Shelf.faults c.run_file-outcome.new.shelf f)). calm (subst (λ n. Rose (g.S.Shelf.faults c.args.shelf.now n) (g.S.Shelf.faults c.run_file-outcome.new.shelf n)) same rose) in
-    status_cases r.status ((r.status ≡ TooLong) ⊎ (r.status ≡ Memory))
-    (λ s. absurd (not_both bytes (of_told (told f) bytes (IsJudged old new r.status) here (e.judged s)).0 long))
-    (λ s. absurd (not_both bytes (of_told (told f) bytes (IsRefusedAt r.line) here (e.refused s)).0 long))
-    (λ s. absurd (e.usage s))
-    (λ s. absurd (quiet (e.read_fault s)))
-    (λ s. absurd (not_both bytes (of_told (told f) bytes (IsCutShort old new) here (e.cut_short s)).0 long))
-    (λ s. inr s)
-    (λ s. absurd (e.over s))
-    (λ s. inl s)
+pub returns-clause-answered : goal.returns-clause-answered
+returns-clause-answered g c = let a = c.answer.ensures in causes.answered (causes.ran_of a.0 a.1 a.3)
 
-pub returns-clause-no_trace : goal.returns-clause-no_trace
-returns-clause-no_trace g c file bytes is held within none calm =
-    let f = c.in-Some.file.now in
-    let same = same_file (map string_bytes c.args.words.now) f file c.in-Some.ensures is in
-    let e = c.run_file-outcome.ensures in
-    let r = c.run_file-outcome.result in
-    let told = g.S.Shelf.held c.args.shelf.now in
-    let here : told f ≡ Some (Some bytes) = subst (λ n. told n ≡ Some (Some bytes)) (sym same) held in
-    let old = g.O.Sink.written c.args.out.now in
-    let new = g.O.Sink.written c.run_file-outcome.new.out in
-    let quiet = λ (rose : Rose (g.S.Shelf.faults c.args.shelf.now f) (g.S.Shelf.faults c.run_file-outcome.new.shelf f)). calm (subst (λ n. Rose (g.S.Shelf.faults c.args.shelf.now n) (g.S.Shelf.faults c.run_file-outcome.new.shelf n)) same rose) in
-    status_cases r.status ((r.status ≡ Refused) ⊎ (r.status ≡ Memory))
-    (λ s. let j = of_told (told f) bytes (IsJudged old new r.status) here (e.judged s) in absurd (not_wanted bytes j.1 r.status none j.2))
-    (λ s. inl s)
-    (λ s. absurd (e.usage s))
-    (λ s. absurd (quiet (e.read_fault s)))
-    (λ s. let j = of_told (told f) bytes (IsCutShort old new) here (e.cut_short s) in absurd (not_wanted bytes j.2 j.1 none j.3))
-    (λ s. inr s)
-    (λ s. absurd (e.over s))
-    (λ s. absurd (not_both bytes within (of_told (told f) bytes (λ b. LIMIT < length b) here (e.too_long s))))
+pub returns-clause-usage : goal.returns-clause-usage
+returns-clause-usage g c = let a = c.answer.ensures in causes.usage (causes.ran_of a.0 a.1 a.3)
+
+pub returns-clause-no_command : goal.returns-clause-no_command
+returns-clause-no_command g c = let a = c.answer.ensures in causes.no_command (causes.ran_of a.0 a.1 a.3)
+
+pub returns-clause-over : goal.returns-clause-over
+returns-clause-over g c = let a = c.answer.ensures in causes.no_over (causes.ran_of a.0 a.1 a.3)
+
+pub returns-clause-read_fault : goal.returns-clause-read_fault
+returns-clause-read_fault g c task t e = let a = c.answer.ensures in (causes.read_fault (causes.ran_of a.0 a.1 a.3) task t e).0
+
+pub returns-clause-too_long : goal.returns-clause-too_long
+returns-clause-too_long g c task t e = let a = c.answer.ensures in (causes.too_long (causes.ran_of a.0 a.1 a.3) task t e).0
+
+pub returns-clause-long : goal.returns-clause-long
+returns-clause-long g c task files t held over calm = let a = c.answer.ensures in causes.long (causes.ran_of a.0 a.1 a.3) task files t held calm over
+
+pub returns-clause-refused : goal.returns-clause-refused
+returns-clause-refused g c task t e = let a = c.answer.ensures in (causes.refused (causes.ran_of a.0 a.1 a.3) task t e).0
+
+pub returns-clause-not_accepted : goal.returns-clause-not_accepted
+returns-clause-not_accepted g c task files t held within none calm = let a = c.answer.ensures in causes.not_accepted (causes.ran_of a.0 a.1 a.3) task files t held calm within none
+
+pub returns-clause-write_fault : goal.returns-clause-write_fault
+returns-clause-write_fault g c = let a = c.answer.ensures in causes.put_fails (causes.ran_of a.0 a.1 a.3)
+
+pub returns-clause-cut_short : goal.returns-clause-cut_short
+returns-clause-cut_short g c task t e = let a = c.answer.ensures in (causes.write_fault (causes.ran_of a.0 a.1 a.3) task t e).1
+
+pub returns-clause-memory : goal.returns-clause-memory
+returns-clause-memory g c = let a = c.answer.ensures in causes.memory (causes.ran_of a.0 a.1 a.3)
+
+pub returns-clause-quiet : goal.returns-clause-quiet
+returns-clause-quiet g c = let a = c.answer.ensures in causes.quiet (causes.ran_of a.0 a.1 a.3)
 
 pub returns-clause-complete : goal.returns-clause-complete
-returns-clause-complete g c file bytes sections is held within trace calm calm_out =
-    let f = c.in-Some.file.now in
-    let same = same_file (map string_bytes c.args.words.now) f file c.in-Some.ensures is in
-    let e = c.run_file-outcome.ensures in
-    let r = c.run_file-outcome.result in
-    let told = g.S.Shelf.held c.args.shelf.now in
-    let here : told f ≡ Some (Some bytes) = subst (λ n. told n ≡ Some (Some bytes)) (sym same) held in
-    let old = g.O.Sink.written c.args.out.now in
-    let new = g.O.Sink.written c.run_file-outcome.new.out in
-    let quiet = λ (rose : Rose (g.S.Shelf.faults c.args.shelf.now f) (g.S.Shelf.faults c.run_file-outcome.new.shelf f)). calm (subst (λ n. Rose (g.S.Shelf.faults c.args.shelf.now n) (g.S.Shelf.faults c.run_file-outcome.new.shelf n)) same rose) in
-    status_cases r.status (IsEnd r.status ⊎ (r.status ≡ Memory))
-    (λ s. inl s)
-    (λ s. absurd ((of_told (told f) bytes (IsRefusedAt r.line) here (e.refused s)).1 sections trace))
-    (λ s. absurd (e.usage s))
-    (λ s. absurd (quiet (e.read_fault s)))
-    (λ s. absurd (calm_out (e.write_fault s)))
-    (λ s. inr s)
-    (λ s. absurd (e.over s))
-    (λ s. absurd (not_both bytes within (of_told (told f) bytes (λ b. LIMIT < length b) here (e.too_long s))))
+returns-clause-complete g c task files t held within accepted calm put = let a = c.answer.ensures in causes.complete (causes.ran_of a.0 a.1 a.3) task files t held calm within accepted put
+
+pub returns-clause-told : goal.returns-clause-told
+returns-clause-told g c task t = let a = c.answer.ensures in (a.0, a.1, a.2, ending.with_task _ _ a.0 a.3 task t)
+
+pub returns-clause-told_usage : goal.returns-clause-told_usage
+returns-clause-told_usage g c e = 
+    let told = λ (x : Outcome). Tells (g.E.Sink.written c.args.err.now) (g.E.Sink.written c.answer.new.err) (g.E.Sink.faults c.args.err.now) (g.E.Sink.faults c.answer.new.err) (told_text x) in
+    let a = c.answer.ensures in
+    causes.told_usage told a.0 a.1 a.2 e

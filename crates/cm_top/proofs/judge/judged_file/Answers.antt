@@ -1,8 +1,8 @@
 use Rattle.std.proofs.Common.{◌≡◌, subst}
-use Rattle.cm_top.specs.Command.{IsRefusedAt}
+use Rattle.cm_top.specs.Judging.{IsRefusedAt}
 use Rattle.cm_top.proofs.Files.{of_file}
 use Rattle.cm_top.proofs.Judgements.{refused_at}
-use Rattle.cm_top.proofs.command.judged_file.Goals as goal
+use Rattle.cm_top.proofs.judge.judged_file.Goals as goal
 
 pub returns-in-Err-BadLine-clause-refused : goal.returns-in-Err-BadLine-clause-refused
 returns-in-Err-BadLine-clause-refused g c line is =

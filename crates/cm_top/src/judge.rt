@@ -1,14 +1,17 @@
 // The command `judge FILE`.
 ghost use Rattle.std.specs.Prelude.{◌≡◌, ◌≢◌, ◌<◌, ◌⊎◌, ℕ, length, map, IfErr, IfOk, IsErrOf};
 ghost use Rattle.cm_io.specs.Causes.{Rose};
-ghost use Rattle.cm_top.specs.Command.{IsCutShort, IsJudged, IsRefusedAt, IsWithin};
+ghost use Rattle.cm_words.specs.declared.task.Task.TheVariants as task;
+ghost use Rattle.cm_top.specs.Judging.{IsJudged, IsJudgedInPart, IsRefusedAt, IsWithin};
+ghost use Rattle.cm_top.specs.Endings.{IsEnding};
 ghost use Rattle.cm_top.specs.Fetch.{OfFile};
-ghost use Rattle.cm_top.specs.Output.{IsEnd, status_of};
+ghost use Rattle.cm_top.specs.Output.{IsEnd, judge_status};
 ghost use Rattle.cm_top.specs.Run.{IsJudgedAs};
 
 use crate::Status;
 use crate::emit::{Cut, put_all};
 use crate::fetch::{LIMIT, fetch_run};
+use crate::outcome::Outcome;
 use crate::sections::Judged;
 use crate::stop::Stop;
 use cm_io::{Shelf, Sink};
@@ -17,7 +20,7 @@ use std::alloc::Global;
 
 // Conflicts where a section has a conflict line, and else done.
 fn status_for(judged: &[Judged]) -> Status
-    ensures value { result ≡ status_of (map (λ j. j.lines) judged.now) }
+    ensures value { result ≡ judge_status (map (λ j. j.lines) judged.now) }
     ensures ends { IsEnd result }
 {
     for section in judged {
@@ -47,8 +50,8 @@ fn judged_file<S: Shelf>(alloc: Global, shelf: &mut S, file: &str) -> Result<Vec
     }
 }
 
-/// Judges a file, and puts the output once all of the file was accepted.
-pub fn judge_file<S: Shelf, O: Sink>(
+// Judges a file, and puts the output once all of the file was accepted.
+fn judge_file<S: Shelf, O: Sink>(
     alloc: Global,
     file: &str,
     shelf: &mut S,
@@ -60,9 +63,9 @@ pub fn judge_file<S: Shelf, O: Sink>(
     ensures too_long { IsErrOf result Stop.TooLong → OfFile (S.held shelf.old file.now) (λ bytes. LIMIT < length bytes) }
     ensures refused { (line : ℕ) → IsErrOf result (Stop.Refused line) → OfFile (S.held shelf.old file.now) (IsRefusedAt line) }
     ensures write_fault { IsErrOf result Stop.WriteFault → Rose (O.faults out.old) (O.faults out.new) }
-    ensures cut_short { IsErrOf result Stop.WriteFault → OfFile (S.held shelf.old file.now) (IsCutShort (O.written out.old) (O.written out.new)) }
+    ensures cut_short { IsErrOf result Stop.WriteFault → OfFile (S.held shelf.old file.now) (IsJudgedInPart (O.written out.old) (O.written out.new)) }
     ensures memory { IsErrOf result Stop.Memory → (O.written out.new ≡ O.written out.old)
-        ⊎ OfFile (S.held shelf.old file.now) (IsCutShort (O.written out.old) (O.written out.new)) }
+        ⊎ OfFile (S.held shelf.old file.now) (IsJudgedInPart (O.written out.old) (O.written out.new)) }
     ensures quiet { IfErr result (λ stop. stop ≢ Stop.WriteFault → stop ≢ Stop.Memory → O.written out.new ≡ O.written out.old) }
 {
     let judged = match judged_file(alloc, shelf, file) {
@@ -73,5 +76,35 @@ pub fn judge_file<S: Shelf, O: Sink>(
         Ok(()) => Ok(status_for(&judged)),
         Err(Cut::WriteFault) => Err(Stop::WriteFault),
         Err(Cut::Memory) => Err(Stop::Memory),
+    }
+}
+
+/// Runs `judge FILE`.
+pub fn run<'a, S: Shelf, O: Sink>(
+    alloc: Global,
+    file: &'a str,
+    shelf: &mut S,
+    out: &mut O,
+) -> Outcome<'a>
+    ensures {
+        IsEnding (task.Judge file.entry.now) (record {
+            held = S.held shelf.old;
+            before = S.faults shelf.old;
+            now = S.faults shelf.new;
+            old = O.written out.old;
+            new = O.written out.new;
+            put_before = O.faults out.old;
+            put_now = O.faults out.new;
+        }) result
+    }
+{
+    match judge_file(alloc, file, shelf, out) {
+        Ok(Status::Conflicts) => Outcome::Conflicts,
+        Ok(_) => Outcome::Done,
+        Err(Stop::ReadFault) => Outcome::ReadFault { file },
+        Err(Stop::TooLong) => Outcome::TooLong { file },
+        Err(Stop::Refused { line }) => Outcome::BadTraceLine { file, line },
+        Err(Stop::WriteFault) => Outcome::WriteFault,
+        Err(Stop::Memory) => Outcome::Memory,
     }
 }

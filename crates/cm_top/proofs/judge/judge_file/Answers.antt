@@ -1,9 +1,9 @@
 use Rattle.std.proofs.Common.{subst, ap, ◌∙◌, inr}
 use Rattle.std.specs.Io.KnownBytes.{Appends}
-use Rattle.cm_top.specs.Output.{TakesFront, joined, status_of}
+use Rattle.cm_top.specs.Output.{TakesFront, joined, judge_status}
 use Rattle.cm_top.specs.Pieces.{pieces_of}
 use Rattle.cm_top.proofs.Judgements.{judged_part, judged_whole, lines_of_all}
-use Rattle.cm_top.proofs.command.judge_file.Goals as goal
+use Rattle.cm_top.proofs.judge.judge_file.Goals as goal
 
 pub returns-in-Ok-put_all-clause-judged : goal.returns-in-Ok-put_all-clause-judged
 returns-in-Ok-put_all-clause-judged g c =
@@ -12,7 +12,7 @@ returns-in-Ok-put_all-clause-judged g c =
     let new = g.O.Sink.written c.put_all.new.out in
     let judged = c.in-Ok.judged.items in
     let taken = subst (λ j. Appends old new (joined (pieces_of j))) c.deref.ensures.value c.in-Ok-put_all.ensures.taken in
-    judged_whole told old new judged c.status_for.result c.in-Ok.ensures.judged taken (c.status_for.ensures.value ∙ ap (λ j. status_of (lines_of_all j)) c.deref-in-Ok-put_all.ensures.value)
+    judged_whole told old new judged c.status_for.result c.in-Ok.ensures.judged taken (c.status_for.ensures.value ∙ ap (λ j. judge_status (lines_of_all j)) c.deref-in-Ok-put_all.ensures.value)
 
 pub returns-in-Err-WriteFault-clause-cut_short : goal.returns-in-Err-WriteFault-clause-cut_short
 returns-in-Err-WriteFault-clause-cut_short g c is =
