@@ -4,6 +4,7 @@
 mod form;
 mod judge;
 mod matches;
+mod number;
 mod posix;
 mod task;
 mod words;

@@ -1,7 +1,7 @@
 // What a form makes of words.
 ghost use Rattle.std.specs.Prelude.{◌≡◌, true, map, string_bytes, option_map, None, Some, IfOk, IsErrOf};
 ghost use Rattle.clap.specs.Words.{app_of, first_of, found_of, is_simple, is_simple_and_free, matches_of, rows_of};
-ghost use Rattle.cm_words.specs.Forms.{IsTaken};
+ghost use Rattle.cm_words.specs.Forms.{IsTaken, is_true};
 
 use crate::WordsFault;
 use clap::error::ErrorKind;
@@ -44,5 +44,15 @@ pub fn name_of(alloc: Global, matches: &ArgMatches<'_>, id: &str) -> Result<Name
     match Name::from_str(alloc, text) {
         Ok(name) => Ok(name),
         Err(_) => Err(WordsFault::Memory),
+    }
+}
+
+/// Whether the words give a flag.
+pub fn is_set(matches: &ArgMatches<'_>, id: &str) -> bool
+    ensures { result ≡ is_true (first_of id.now (rows_of (found_of matches.now))) }
+{
+    match text_of(matches, id) {
+        Some(text) => text == "true",
+        None => false,
     }
 }

@@ -1,5 +1,4 @@
-use cm_model::{Name, NoMemory};
-use std::alloc::AllocError;
+use cm_model::Name;
 
 /// What the words ask for.
 #[derive(Debug, Drop)]
@@ -17,24 +16,4 @@ pub enum WordsFault {
     Usage,
     /// Memory ran out.
     Memory,
-}
-
-impl From<NoMemory> for WordsFault {
-    ghost use Rattle.std.specs.Prelude.{◌≡◌};
-
-    fn from(_: NoMemory) -> WordsFault
-        ensures { result ≡ WordsFault.Memory }
-    {
-        WordsFault::Memory
-    }
-}
-
-impl From<AllocError> for WordsFault {
-    ghost use Rattle.std.specs.Prelude.{◌≡◌};
-
-    fn from(_: AllocError) -> WordsFault
-        ensures { result ≡ WordsFault.Memory }
-    {
-        WordsFault::Memory
-    }
 }

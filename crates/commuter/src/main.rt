@@ -1,4 +1,4 @@
-//! Judges the memory traces of interface calls.
+//! The program: `commuter` on files and standard output.
 #![tactic(auto)]
 
 mod edge;
