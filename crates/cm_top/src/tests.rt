@@ -1,4 +1,4 @@
-mod answers;
 mod failures;
 mod long;
 mod outside;
+mod told;

@@ -28,11 +28,11 @@ pub fn fair<'a>(most: usize) -> Outside<'a> {
 }
 
 // The status, and what `out` and `err` hold after a run.
-#[derive(Drop)]
-pub struct Answer {
+#[derive(Clone, Copy)]
+pub struct Answer<'a> {
     pub status: u8,
-    pub out: Vec<u8>,
-    pub err: Vec<u8>,
+    pub out: &'a [u8],
+    pub err: &'a [u8],
 }
 
 fn files(alloc: Global, bytes: &[u8]) -> Result<List<MemFile>, NoMemory>
@@ -46,7 +46,7 @@ fn files(alloc: Global, bytes: &[u8]) -> Result<List<MemFile>, NoMemory>
     Ok(files)
 }
 
-pub fn strings(alloc: Global, words: &[&str]) -> Result<Vec<String>, Fail> {
+pub fn strings(alloc: Global, words: &[&str]) -> Result<Vec<String>, NoMemory> {
     let mut strings = Vec::new(alloc);
     for word in words {
         strings.push(String::from_str(alloc, word)?)?;
@@ -54,17 +54,27 @@ pub fn strings(alloc: Global, words: &[&str]) -> Result<Vec<String>, Fail> {
     Ok(strings)
 }
 
-// Runs the program on the words, where the file `t` has the bytes.
-pub fn run(alloc: Global, words: &[&str], bytes: &[u8], outside: Outside) -> Result<Answer, Fail> {
+pub fn sink(alloc: Global, fails: &[PutFail]) -> Result<MemSink, NoMemory> {
+    MemSink::new(alloc, 8192, List::from_slice(alloc, fails)?)
+}
+
+fn shelf(alloc: Global, bytes: &[u8], outside: Outside) -> Result<MemShelf, NoMemory> {
     let fetches = List::from_slice(alloc, outside.fetches)?;
-    let mut shelf = MemShelf::new(files(alloc, bytes)?, outside.most.max(1), fetches);
-    let mut out = MemSink::new(alloc, 4096, List::from_slice(alloc, outside.puts)?)?;
-    let mut err = MemSink::new(alloc, 4096, List::from_slice(alloc, outside.tells)?)?;
+    Ok(MemShelf::new(files(alloc, bytes)?, outside.most.max(1), fetches))
+}
+
+// Whether the program answers so on the words, where the file `t` has the bytes.
+pub fn answers(
+    alloc: Global,
+    words: &[&str],
+    bytes: &[u8],
+    outside: Outside,
+    want: Answer,
+) -> Result<bool, Fail> {
     let words = strings(alloc, words)?;
-    let status = commuter(alloc, words.as_slice(), &mut shelf, &mut out, &mut err);
-    Ok(Answer {
-        status: status.number(),
-        out: out.bytes().to_vec(alloc)?,
-        err: err.bytes().to_vec(alloc)?,
-    })
+    let mut shelf = shelf(alloc, bytes, outside)?;
+    let mut out = sink(alloc, outside.puts)?;
+    let mut err = sink(alloc, outside.tells)?;
+    let status = commuter(alloc, words.as_slice(), &mut shelf, &mut out, &mut err).number();
+    Ok(status == want.status && out.bytes() == want.out && err.bytes() == want.err)
 }
