@@ -1,3 +1,4 @@
 pub mod Forms
+pub mod inner
 pub mod Tasks
 pub mod Values
