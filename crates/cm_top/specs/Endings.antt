@@ -102,4 +102,5 @@ abbrev pub IsEndingOn : List (List ℕ) → Outside → Outcome → Type 0
 IsEndingOn words o outcome =
     ((outcome ≡ ends.Usage) × HasNoTask words × (o.new ≡ o.old))
     ⊎ ((outcome ≡ ends.Memory) × (o.new ≡ o.old))
-    ⊎ ((task : Task) × IsTaskOf words task × ((other : Task) → IsTaskOf words other → other ≡ task) × IsEnding task o outcome)
+    ⊎ ((task : Task) × IsTaskOf words task
+        × ((other : Task) → IsTaskOf words other → other ≡ task) × IsEnding task o outcome)

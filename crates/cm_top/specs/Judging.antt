@@ -16,12 +16,14 @@ IsNoTrace bytes = (sections : List Section) → ¬ IsTrace sections bytes
 
 -- the trace was judged, and all of what is wanted was taken
 abbrev pub IsJudged : Option (List ℕ) → Option (List ℕ) → Status → List ℕ → Type 0
-IsJudged old new end bytes = IsWithin bytes × (pieces : List (List ℕ)) × IsJudgement bytes pieces end × Appends old new (joined pieces)
+IsJudged old new end bytes =
+    IsWithin bytes × (pieces : List (List ℕ)) × IsJudgement bytes pieces end × Appends old new (joined pieces)
 
 -- the trace was judged, and a prefix of the first of the wanted pieces was taken
 abbrev pub IsJudgedInPart : Option (List ℕ) → Option (List ℕ) → List ℕ → Type 0
 IsJudgedInPart old new bytes =
-    IsWithin bytes × (end : Status) × (pieces : List (List ℕ)) × IsJudgement bytes pieces end × TakesFront old new pieces
+    IsWithin bytes
+    × (end : Status) × (pieces : List (List ℕ)) × IsJudgement bytes pieces end × TakesFront old new pieces
 
 -- the bytes are no trace, and this is their first bad line
 abbrev pub IsRefusedAt : ℕ → List ℕ → Type 0

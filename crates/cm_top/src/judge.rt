@@ -33,10 +33,14 @@ fn status_for(judged: &[Judged]) -> Status
 
 // The judged sections of a file that is a trace.
 fn judged_file<S: Shelf>(alloc: Global, shelf: &mut S, file: &str) -> Result<Vec<Judged>, Stop>
-    ensures judged { IfOk result (λ judged. OfFile (S.held shelf.old file.now) (λ bytes. IsWithin bytes × IsJudgedAs bytes judged.items)) }
-    ensures read_fault { IsErrOf result Stop.ReadFault → Rose (S.faults shelf.old file.now) (S.faults shelf.new file.now) }
-    ensures too_long { IsErrOf result Stop.TooLong → OfFile (S.held shelf.old file.now) (λ bytes. LIMIT < length bytes) }
-    ensures refused { (line : ℕ) → IsErrOf result (Stop.Refused line) → OfFile (S.held shelf.old file.now) (IsRefusedAt line) }
+    ensures judged { IfOk result (λ judged.
+        OfFile (S.held shelf.old file.now) (λ bytes. IsWithin bytes × IsJudgedAs bytes judged.items)) }
+    ensures read_fault { IsErrOf result Stop.ReadFault
+        → Rose (S.faults shelf.old file.now) (S.faults shelf.new file.now) }
+    ensures too_long { IsErrOf result Stop.TooLong
+        → OfFile (S.held shelf.old file.now) (λ bytes. LIMIT < length bytes) }
+    ensures refused { (line : ℕ) → IsErrOf result (Stop.Refused line)
+        → OfFile (S.held shelf.old file.now) (IsRefusedAt line) }
     ensures no_write { IfErr result (λ stop. stop ≢ Stop.WriteFault) }
 {
     let run = match fetch_run(alloc, shelf, file) {
@@ -57,16 +61,22 @@ fn judge_file<S: Shelf, O: Sink>(
     shelf: &mut S,
     out: &mut O,
 ) -> Result<Status, Stop>
-    ensures judged { IfOk result (λ status. OfFile (S.held shelf.old file.now) (IsJudged (O.written out.old) (O.written out.new) status)) }
+    ensures judged { IfOk result (λ status.
+        OfFile (S.held shelf.old file.now) (IsJudged (O.written out.old) (O.written out.new) status)) }
     ensures ends { IfOk result IsEnd }
-    ensures read_fault { IsErrOf result Stop.ReadFault → Rose (S.faults shelf.old file.now) (S.faults shelf.new file.now) }
-    ensures too_long { IsErrOf result Stop.TooLong → OfFile (S.held shelf.old file.now) (λ bytes. LIMIT < length bytes) }
-    ensures refused { (line : ℕ) → IsErrOf result (Stop.Refused line) → OfFile (S.held shelf.old file.now) (IsRefusedAt line) }
+    ensures read_fault { IsErrOf result Stop.ReadFault
+        → Rose (S.faults shelf.old file.now) (S.faults shelf.new file.now) }
+    ensures too_long { IsErrOf result Stop.TooLong
+        → OfFile (S.held shelf.old file.now) (λ bytes. LIMIT < length bytes) }
+    ensures refused { (line : ℕ) → IsErrOf result (Stop.Refused line)
+        → OfFile (S.held shelf.old file.now) (IsRefusedAt line) }
     ensures write_fault { IsErrOf result Stop.WriteFault → Rose (O.faults out.old) (O.faults out.new) }
-    ensures cut_short { IsErrOf result Stop.WriteFault → OfFile (S.held shelf.old file.now) (IsJudgedInPart (O.written out.old) (O.written out.new)) }
+    ensures cut_short { IsErrOf result Stop.WriteFault
+        → OfFile (S.held shelf.old file.now) (IsJudgedInPart (O.written out.old) (O.written out.new)) }
     ensures memory { IsErrOf result Stop.Memory → (O.written out.new ≡ O.written out.old)
         ⊎ OfFile (S.held shelf.old file.now) (IsJudgedInPart (O.written out.old) (O.written out.new)) }
-    ensures quiet { IfErr result (λ stop. stop ≢ Stop.WriteFault → stop ≢ Stop.Memory → O.written out.new ≡ O.written out.old) }
+    ensures quiet { IfErr result (λ stop. stop ≢ Stop.WriteFault → stop ≢ Stop.Memory
+        → O.written out.new ≡ O.written out.old) }
 {
     let judged = match judged_file(alloc, shelf, file) {
         Ok(judged) => judged,

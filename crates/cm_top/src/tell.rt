@@ -67,7 +67,8 @@ fn put_line<E: Sink>(err: &mut E, outcome: &Outcome<'_>) -> Result<(), Failed>
 
 /// Puts the line on an outcome. A fault leaves a part of it.
 pub fn tell<E: Sink>(err: &mut E, outcome: &Outcome<'_>)
-    ensures { Tells (E.written err.old) (E.written err.new) (E.faults err.old) (E.faults err.new) (told_text outcome.now) }
+    ensures { Tells (E.written err.old) (E.written err.new) (E.faults err.old) (E.faults err.new)
+        (told_text outcome.now) }
 {
     let _ = put_line(err, outcome);
 }

@@ -3,7 +3,8 @@ ghost use Rattle.std.specs.Prelude.{◌≡◌, ◌≢◌, ◌⊎◌, ℕ, List, 
 ghost use Rattle.cm_io.specs.Causes.{Rose};
 ghost use Rattle.cm_words.specs.Tasks.{HasNoTask, IsTaskOf};
 ghost use Rattle.cm_words.specs.declared.task.Task.{Task};
-ghost use Rattle.cm_top.specs.Endings.{IsAnswered, IsCutShort, IsEnding, IsEndingOn, IsQuiet, IsTooLong, Outside, Tells, status_of, told_text};
+ghost use Rattle.cm_top.specs.Endings.{IsAnswered, IsCutShort, IsEnding, IsEndingOn, IsQuiet, IsTooLong};
+ghost use Rattle.cm_top.specs.Endings.{Tells, status_of, told_text};
 ghost use Rattle.cm_top.specs.Files.{AreHeld, AreWithin, OfFiles, SomeInput};
 ghost use Rattle.cm_top.specs.Output.{IsEnd};
 ghost use Rattle.cm_top.specs.Tasks.{Accepts, inputs_of};
@@ -44,7 +45,8 @@ fn run<'a, S: Shelf, O: Sink>(
 // Tells an outcome, and gives its status.
 fn end<E: Sink>(err: &mut E, outcome: &Outcome<'_>) -> Status
     ensures status { result ≡ status_of outcome.now }
-    ensures told { Tells (E.written err.old) (E.written err.new) (E.faults err.old) (E.faults err.new) (told_text outcome.now) }
+    ensures told { Tells (E.written err.old) (E.written err.new) (E.faults err.old) (E.faults err.new)
+        (told_text outcome.now) }
 {
     tell(err, outcome);
     outcome.status()
@@ -114,7 +116,8 @@ pub fn commuter<S: Shelf, O: Sink, E: Sink>(
 
     // Refused comes exactly where the files, within their limits, are not what the task reads.
     ensures refused { (task : Task) → IsTaskOf (map string_bytes words.now) task → result ≡ Status.Refused
-        → OfFiles (S.held shelf.old) (inputs_of task) (λ files. AreWithin (inputs_of task) files × ¬ Accepts task files) }
+        → OfFiles (S.held shelf.old) (inputs_of task)
+        (λ files. AreWithin (inputs_of task) files × ¬ Accepts task files) }
     ensures not_accepted { (task : Task) (files : List (List ℕ)) → IsTaskOf (map string_bytes words.now) task
         → AreHeld (S.held shelf.old) (inputs_of task) files → AreWithin (inputs_of task) files → ¬ Accepts task files
         → ¬ SomeInput (λ i. Rose (S.faults shelf.old i.name) (S.faults shelf.new i.name)) (inputs_of task)
@@ -137,7 +140,8 @@ pub fn commuter<S: Shelf, O: Sink, E: Sink>(
         → ¬ Rose (O.faults out.old) (O.faults out.new) → IsEnd result ⊎ (result ≡ Status.Memory) }
 
     // `err` takes the line on the outcome, which names the file that is at fault and its first bad line.
-    ensures told { (task : Task) → IsTaskOf (map string_bytes words.now) task → (outcome : Outcome) × (result ≡ status_of outcome)
+    ensures told { (task : Task) → IsTaskOf (map string_bytes words.now) task
+        → (outcome : Outcome) × (result ≡ status_of outcome)
         × Tells (E.written err.old) (E.written err.new) (E.faults err.old) (E.faults err.new) (told_text outcome)
         × IsEnding task (record {
             held = S.held shelf.old;

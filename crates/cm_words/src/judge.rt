@@ -18,7 +18,8 @@ fn command<'a>(alloc: Global) -> Result<Command<'a>, AllocError>
 
 pub fn read(alloc: Global, words: &[String]) -> Result<Task, WordsFault>
     ensures task { IfOk result (IsTaskOf (codes "judge" ∷ map string_bytes words.now)) }
-    ensures usage { IsErrOf result WordsFault.Usage → (task : Task) → ¬ IsTaskOf (codes "judge" ∷ map string_bytes words.now) task }
+    ensures usage { IsErrOf result WordsFault.Usage
+        → (task : Task) → ¬ IsTaskOf (codes "judge" ∷ map string_bytes words.now) task }
 {
     let Ok(command) = command(alloc) else {
         return Err(WordsFault::Memory);

@@ -14,8 +14,10 @@ pub fn take<'a>(command: Command<'a>, words: &'a [String]) -> Result<ArgMatches<
     requires simple { is_simple (app_of command) ≡ true }
     requires free { is_simple_and_free (app_of command) ≡ true }
     ensures taken { IfOk result (λ m. IsTaken (app_of command.entry) (map string_bytes words.entry.now)) }
-    ensures matches { IfOk result (λ m. rows_of (found_of m) ≡ matches_of (app_of command.entry) (map string_bytes words.entry.now)) }
-    ensures usage { IsErrOf result WordsFault.Usage → ¬ IsTaken (app_of command.entry) (map string_bytes words.entry.now) }
+    ensures matches { IfOk result (λ m.
+        rows_of (found_of m) ≡ matches_of (app_of command.entry) (map string_bytes words.entry.now)) }
+    ensures usage { IsErrOf result WordsFault.Usage
+        → ¬ IsTaken (app_of command.entry) (map string_bytes words.entry.now) }
 {
     match command.try_get_matches_from(words) {
         Ok(matches) => Ok(matches),

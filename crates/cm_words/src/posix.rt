@@ -18,7 +18,8 @@ fn command<'a>(alloc: Global) -> Command<'a>
 
 pub fn read(alloc: Global, words: &[String]) -> Result<Task, WordsFault>
     ensures task { IfOk result (IsTaskOf (codes "posix" ∷ map string_bytes words.now)) }
-    ensures usage { IsErrOf result WordsFault.Usage → (task : Task) → ¬ IsTaskOf (codes "posix" ∷ map string_bytes words.now) task }
+    ensures usage { IsErrOf result WordsFault.Usage
+        → (task : Task) → ¬ IsTaskOf (codes "posix" ∷ map string_bytes words.now) task }
 {
     take(command(alloc), words)?;
     Ok(Task::Posix)

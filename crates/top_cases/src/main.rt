@@ -1,8 +1,8 @@
 //! Runs command lines in memory, and prints what they answer.
 //!
-//! A line of standard input is a row: the most bytes that a fetch gives, the bytes of the file `t`, and the words, with a
-//! tab before each but the first of these. In a file `|` stands for a newline. For each row a line goes out: the status, and
-//! what the two sinks took, where `|` stands for a newline again.
+//! A line of standard input is a row: the most bytes that a fetch gives, the bytes of the file `t`, and the words, with
+//! a tab before each but the first of these. In a file `|` stands for a newline. For each row a line goes out: the
+//! status, and what the two sinks took, where `|` stands for a newline again.
 #![tactic(auto)]
 
 ghost use Rattle.std.specs.Prelude.{◌≢◌, IfOk};
