@@ -1,11 +1,10 @@
 -- What the ending of a run says of its status.
-use Rattle.std.proofs.Common.{arith, ◌≡◌, ◌⊎◌, ◌<◌, ◌≤◌, ℕ, List, [], ◌∷◌, length, Option, Some, inl, inr, refl, sym, subst, ◌∙◌}
+use Rattle.std.proofs.Common.{arith, ◌≡◌, ◌⊎◌, ◌<◌, ℕ, List, [], ◌∷◌, length, Option, inl, inr, sym, subst}
 use Rattle.cm_io.specs.Causes.{Rose}
-use Rattle.cm_mtrace.specs.Trace.{Section}
-use Rattle.cm_words.specs.Tasks.{HasNoTask, IsTaskOf}
+use Rattle.cm_words.specs.Tasks.{IsTaskOf}
 use Rattle.cm_words.specs.declared.task.Task.{Task}
 use Rattle.cm_words.specs.declared.task.Task.TheVariants.{Judge, Posix}
-use Rattle.cm_top.specs.Endings.{HasRisen, IsAnswered, IsCutShort, IsEnding, IsEndingOn, IsQuiet, IsTooLong, Outside, status_of}
+use Rattle.cm_top.specs.Endings.{HasRisen, IsAnswered, IsCutShort, IsEnding, IsEndingOn, IsTooLong, Outside, status_of}
 use Rattle.cm_top.specs.Fetch.{OfFile}
 use Rattle.cm_top.specs.Files.{AreHeld, AreWithin, Input, OfFiles, SomeInput}
 use Rattle.cm_top.specs.Judging.{IsRefusedAt}

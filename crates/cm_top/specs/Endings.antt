@@ -103,4 +103,4 @@ IsEndingOn words o outcome =
     ((outcome ≡ ends.Usage) × HasNoTask words × (o.new ≡ o.old))
     ⊎ ((outcome ≡ ends.Memory) × (o.new ≡ o.old))
     ⊎ ((task : Task) × IsTaskOf words task
-        × ((other : Task) → IsTaskOf words other → other ≡ task) × IsEnding task o outcome)
+    × ((other : Task) → IsTaskOf words other → other ≡ task) × IsEnding task o outcome)

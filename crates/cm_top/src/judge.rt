@@ -96,17 +96,15 @@ pub fn run<'a, S: Shelf, O: Sink>(
     shelf: &mut S,
     out: &mut O,
 ) -> Outcome<'a>
-    ensures {
-        IsEnding (task.Judge file.entry.now) (record {
-            held = S.held shelf.old;
-            before = S.faults shelf.old;
-            now = S.faults shelf.new;
-            old = O.written out.old;
-            new = O.written out.new;
-            put_before = O.faults out.old;
-            put_now = O.faults out.new;
-        }) result
-    }
+    ensures { IsEnding (task.Judge file.entry.now) (record {
+      held = S.held shelf.old;
+      before = S.faults shelf.old;
+      now = S.faults shelf.new;
+      old = O.written out.old;
+      new = O.written out.new;
+      put_before = O.faults out.old;
+      put_now = O.faults out.new;
+    }) result }
 {
     match judge_file(alloc, file, shelf, out) {
         Ok(Status::Conflicts) => Outcome::Conflicts,

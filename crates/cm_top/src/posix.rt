@@ -11,17 +11,15 @@ use cm_posix::posix_text;
 
 /// Runs `posix`, which reads no file.
 pub fn run<'a, O: Sink>(out: &mut O) -> Outcome<'a>
-    ensures {
-        (held : List ℕ → Option (Option (List ℕ))) (before now : List ℕ → ℕ) → IsEnding task.Posix (record {
-            held = held;
-            before = before;
-            now = now;
-            old = O.written out.old;
-            new = O.written out.new;
-            put_before = O.faults out.old;
-            put_now = O.faults out.new;
-        }) result
-    }
+    ensures { (held : List ℕ → Option (Option (List ℕ))) (before now : List ℕ → ℕ) → IsEnding task.Posix (record {
+      held = held;
+      before = before;
+      now = now;
+      old = O.written out.old;
+      new = O.written out.new;
+      put_before = O.faults out.old;
+      put_now = O.faults out.new;
+    }) result }
 {
     match put_piece(out, posix_text()) {
         Ok(()) => Outcome::Done,

@@ -56,8 +56,18 @@ fn put_line<E: Sink>(err: &mut E, outcome: &Outcome<'_>) -> Result<(), Failed>
 {
     match outcome {
         Outcome::Usage => err.put(b"commuter: bad command line\n"),
-        Outcome::ReadFault { file } => put_three(err, b"commuter: cannot read ", file.as_bytes(), b"\n"),
-        Outcome::TooLong { file } => put_three(err, b"commuter: ", file.as_bytes(), b" is too long\n"),
+        Outcome::ReadFault { file } => put_three(
+            err,
+            b"commuter: cannot read ",
+            file.as_bytes(),
+            b"\n",
+        ),
+        Outcome::TooLong { file } => put_three(
+            err,
+            b"commuter: ",
+            file.as_bytes(),
+            b" is too long\n",
+        ),
         Outcome::BadTraceLine { file, line } => put_bad_line(err, file, *line),
         Outcome::WriteFault => err.put(b"commuter: cannot write\n"),
         Outcome::Memory => err.put(b"commuter: out of memory\n"),

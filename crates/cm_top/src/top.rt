@@ -24,17 +24,15 @@ fn run<'a, S: Shelf, O: Sink>(
     shelf: &mut S,
     out: &mut O,
 ) -> Outcome<'a>
-    ensures {
-        IsEnding task.now (record {
-            held = S.held shelf.old;
-            before = S.faults shelf.old;
-            now = S.faults shelf.new;
-            old = O.written out.old;
-            new = O.written out.new;
-            put_before = O.faults out.old;
-            put_now = O.faults out.new;
-        }) result
-    }
+    ensures { IsEnding task.now (record {
+      held = S.held shelf.old;
+      before = S.faults shelf.old;
+      now = S.faults shelf.new;
+      old = O.written out.old;
+      new = O.written out.new;
+      put_before = O.faults out.old;
+      put_now = O.faults out.new;
+    }) result }
 {
     match task {
         Task::Judge { file } => judge::run(alloc, file.as_str(), shelf, out),
@@ -60,19 +58,17 @@ fn answer<S: Shelf, O: Sink, E: Sink>(
     out: &mut O,
     err: &mut E,
 ) -> Status
-    ensures {
-        (outcome : Outcome) × (result ≡ status_of outcome)
+    ensures { (outcome : Outcome) × (result ≡ status_of outcome)
         × Tells (E.written err.old) (E.written err.new) (E.faults err.old) (E.faults err.new) (told_text outcome)
         × IsEndingOn (map string_bytes words.now) (record {
-            held = S.held shelf.old;
-            before = S.faults shelf.old;
-            now = S.faults shelf.new;
-            old = O.written out.old;
-            new = O.written out.new;
-            put_before = O.faults out.old;
-            put_now = O.faults out.new;
-        }) outcome
-    }
+          held = S.held shelf.old;
+          before = S.faults shelf.old;
+          now = S.faults shelf.new;
+          old = O.written out.old;
+          new = O.written out.new;
+          put_before = O.faults out.old;
+          put_now = O.faults out.new;
+        }) outcome }
 {
     match read_words(alloc, words) {
         Ok(task) => {
@@ -144,13 +140,13 @@ pub fn commuter<S: Shelf, O: Sink, E: Sink>(
         → (outcome : Outcome) × (result ≡ status_of outcome)
         × Tells (E.written err.old) (E.written err.new) (E.faults err.old) (E.faults err.new) (told_text outcome)
         × IsEnding task (record {
-            held = S.held shelf.old;
-            before = S.faults shelf.old;
-            now = S.faults shelf.new;
-            old = O.written out.old;
-            new = O.written out.new;
-            put_before = O.faults out.old;
-            put_now = O.faults out.new;
+          held = S.held shelf.old;
+          before = S.faults shelf.old;
+          now = S.faults shelf.new;
+          old = O.written out.old;
+          new = O.written out.new;
+          put_before = O.faults out.old;
+          put_now = O.faults out.new;
         }) outcome }
     ensures told_usage { result ≡ Status.Usage
         → Tells (E.written err.old) (E.written err.new) (E.faults err.old) (E.faults err.new) (told_text Outcome.Usage) }

@@ -1,5 +1,5 @@
 -- The task of the words: a form and a line for each command.
-use Rattle.std.specs.Prelude.{◌≡◌, ℕ, List, [], ◌∷◌, Some, codes}
+use Rattle.std.specs.Prelude.{◌≡◌, List, [], ◌∷◌, Some, codes}
 use Rattle.clap.specs.Words.{App, Text}
 use Rattle.cm_words.specs.Forms.{IsTaken, form, positional, value_at}
 use Rattle.cm_words.specs.declared.task.Task.{Task}

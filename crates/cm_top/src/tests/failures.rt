@@ -17,12 +17,7 @@ fn judged(alloc: Global, outside: Outside, want: Answer) -> Result<bool, Fail> {
 }
 
 // Whether a put that fails at this call and takes so many bytes leaves that much of the output.
-fn is_cut(
-    alloc: Global,
-    words: &[&str],
-    fail: PutFail,
-    out: &[u8],
-) -> Result<bool, Fail> {
+fn is_cut(alloc: Global, words: &[&str], fail: PutFail, out: &[u8]) -> Result<bool, Fail> {
     let puts = [fail];
     let outside = Outside {
         puts: &puts,
@@ -46,7 +41,10 @@ fn a_failed_put_leaves_the_pieces_before_and_what_it_took(rt: HostRuntime) -> Re
                 call: (at as u64).saturating_add(1),
                 takes: upto - start,
             };
-            assert!(rt; is_cut(rt.alloc(), &["judge", "t"], fail, &WHOLE[..upto])?, "{upto} bytes");
+            assert!(rt;
+                is_cut(rt.alloc(), &["judge", "t"], fail, &WHOLE[..upto])?,
+                "{upto} bytes"
+            );
         }
         start = *end;
     }
@@ -59,7 +57,10 @@ fn a_failed_put_of_the_model_leaves_what_it_took(rt: HostRuntime) -> Result<(), 
     for takes in [0, 2, 7123, 7124] {
         assert!(rt; takes <= text.len());
         let fail = PutFail { call: 1, takes };
-        assert!(rt; is_cut(rt.alloc(), &["posix"], fail, &text[..takes])?, "{takes} bytes");
+        assert!(rt;
+            is_cut(rt.alloc(), &["posix"], fail, &text[..takes])?,
+            "{takes} bytes"
+        );
     }
     Ok(())
 }
@@ -85,7 +86,10 @@ fn a_failed_fetch_puts_nothing_out(rt: HostRuntime) -> Result<(), Fail> {
                 ..fair(most)
             };
             let want = if fetch <= fetches { unread } else { read };
-            assert!(rt; judged(rt.alloc(), outside, want)?, "most {most} fetch {fetch}");
+            assert!(rt;
+                judged(rt.alloc(), outside, want)?,
+                "most {most} fetch {fetch}"
+            );
         }
     }
     Ok(())

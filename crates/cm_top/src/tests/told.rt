@@ -20,7 +20,10 @@ fn each_outcome_has_its_line(rt: HostRuntime) -> Result<(), Fail> {
         (Outcome::Usage, "commuter: bad command line\n"),
         (Outcome::ReadFault { file }, "commuter: cannot read a b\n"),
         (Outcome::TooLong { file }, "commuter: a b is too long\n"),
-        (Outcome::BadTraceLine { file, line: 10 }, "commuter: a b:10: bad trace line\n"),
+        (
+            Outcome::BadTraceLine { file, line: 10 },
+            "commuter: a b:10: bad trace line\n",
+        ),
         (Outcome::WriteFault, "commuter: cannot write\n"),
         (Outcome::Memory, "commuter: out of memory\n"),
     ] {

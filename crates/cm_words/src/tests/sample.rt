@@ -73,7 +73,10 @@ fn is_so(alloc: Global, row: Row<'_>) -> Result<bool, Fail> {
     let words = strings(alloc, row.words)?;
     Ok(match (read(alloc, &words), row.want) {
         (Ok(s), Some((first, second, count, all))) => {
-            s.first.as_str() == first && s.second.as_str() == second && s.count == count && s.all == all
+            s.first.as_str() == first
+                && s.second.as_str() == second
+                && s.count == count
+                && s.all == all
         }
         (Err(WordsFault::Usage), None) => true,
         _ => false,
@@ -94,7 +97,10 @@ fn the_parts_are_read(rt: HostRuntime) -> Result<(), Fail> {
     ];
     for (words, first, second, count, all) in rows {
         let want = Some((first, second, count, all));
-        assert!(rt; is_so(rt.alloc(), Row { words, want })?, "{first} {second} {count}");
+        assert!(rt;
+            is_so(rt.alloc(), Row { words, want })?,
+            "{first} {second} {count}"
+        );
     }
     Ok(())
 }

@@ -17,8 +17,7 @@ pub returns-in-Err-WriteFault : goal.returns-in-Err-WriteFault
 returns-in-Err-WriteFault g c held before now =
     let old = g.O.Sink.written c.args.out.now in
     let new = g.O.Sink.written c.put_piece.new.out in
-    let part = subst (TakesPart old new) c.posix_text.ensures c.in-Err-WriteFault.ensures.taken in
-    (
+    let part = subst (TakesPart old new) c.posix_text.ensures c.in-Err-WriteFault.ensures.taken in (
       c.in-Err-WriteFault.ensures.cause (λ i. Err (c.in-Err-WriteFault.field-0-is i)),
       (tt, Done, posix_model ∷ [], (refl, refl), front_first old new posix_model [] part),
     )

@@ -50,7 +50,7 @@ pub returns-clause-told : goal.returns-clause-told
 returns-clause-told g c task t = let a = c.answer.ensures in (a.0, a.1, a.2, ending.with_task _ _ a.0 a.3 task t)
 
 pub returns-clause-told_usage : goal.returns-clause-told_usage
-returns-clause-told_usage g c e = 
+returns-clause-told_usage g c e =
     let told = λ (x : Outcome). Tells (g.E.Sink.written c.args.err.now) (g.E.Sink.written c.answer.new.err) (g.E.Sink.faults c.args.err.now) (g.E.Sink.faults c.answer.new.err) (told_text x) in
     let a = c.answer.ensures in
     causes.told_usage told a.0 a.1 a.2 e
