@@ -1,3 +1,5 @@
+//! The text is there.
+
 use super::posix_text;
 use std::test::Fail;
 

@@ -1,4 +1,5 @@
-// Pieces put to a sink.
+//! Pieces put to a sink.
+
 ghost use Rattle.std.specs.Prelude.{◌≡◌, ◌∷◌, ◌++◌, ◌≤◌, [], IsErrOf, map};
 ghost use Rattle.cm_io.specs.Causes.{Rose};
 ghost use Rattle.cm_io.specs.Sink.{PutTakes};

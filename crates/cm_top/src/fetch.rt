@@ -1,4 +1,5 @@
-// A trace, fetched piece by piece from a shelf.
+//! A trace, fetched piece by piece from a shelf.
+
 ghost use Rattle.std.specs.Prelude.{◌≡◌, [], ◌+◌, ◌<◌, ◌≤◌, ◌++◌, ◌^◌, ℕ, List, length, IfOk, IfErr, IsErrOf, OnOk};
 ghost use Rattle.cm_io.specs.Causes.{Rose};
 ghost use Rattle.cm_io.specs.Shelf.{NoneFalls, SameFiles};

@@ -1,4 +1,5 @@
-// The command `judge FILE`.
+//! The command `judge FILE`.
+
 ghost use Rattle.std.specs.Prelude.{◌≡◌, ◌≢◌, ◌<◌, ◌⊎◌, ℕ, length, map, IfErr, IfOk, IsErrOf};
 ghost use Rattle.cm_io.specs.Causes.{Rose};
 ghost use Rattle.cm_words.specs.declared.task.Task.TheVariants as task;

@@ -1,3 +1,5 @@
+//! How a task ended.
+
 use crate::Status;
 
 /// How a run ended, with what its line names.

@@ -1,4 +1,5 @@
-// The output of a judgement.
+//! The output of a judgement.
+
 ghost use Rattle.std.specs.Prelude.{◌≡◌, ◌++◌, OnOk};
 ghost use Rattle.cm_top.specs.Output.{conflict_text, section_text};
 

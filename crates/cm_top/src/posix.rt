@@ -1,4 +1,5 @@
-// The command `posix`.
+//! The command `posix`.
+
 ghost use Rattle.std.specs.Prelude.{List, ℕ};
 ghost use Rattle.std.specs.declared.option.Option.{Option};
 ghost use Rattle.cm_top.specs.Endings.{IsEnding};

@@ -1,4 +1,5 @@
-// A trace, read and judged from a stream.
+//! A trace, read and judged from a stream.
+
 ghost use Rattle.std.specs.Prelude.{◌≡◌, ◌+◌, ◌-◌, ◌^◌, ◌<◌, ◌≤◌, ◌++◌, [], ℕ, List, All, length, IfErr, IfOk, OnOk};
 ghost use Rattle.cm_mtrace.specs.Trace.{IsItem, Section, items_of};
 ghost use Rattle.cm_mtrace.specs.declared.Item.{Item};

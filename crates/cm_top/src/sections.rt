@@ -1,4 +1,5 @@
-// The sections of a trace, judged one after another.
+//! The sections of a trace, judged one after another.
+
 ghost use Rattle.std.specs.Prelude.{◌≡◌, ◌∷◌, ◌++◌, [], List, IfOk, OnOk};
 ghost use Rattle.cm_mtrace.specs.Trace.{IsItem, Section, items_of};
 ghost use Rattle.cm_mtrace.specs.declared.Item.{Item};

@@ -1,3 +1,5 @@
+//! How the program ended.
+
 /// How the program ended.
 #[derive(Clone, Copy, Debug, PartialEq, Eq)]
 pub enum Status {

@@ -1,3 +1,5 @@
+//! Why a run stopped before its end.
+
 /// Why a run stopped before its end.
 #[derive(Clone, Copy, Debug, PartialEq, Eq)]
 pub enum Stop {

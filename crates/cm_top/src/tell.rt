@@ -1,4 +1,5 @@
-// The line on an outcome.
+//! The line on an outcome.
+
 ghost use Rattle.std.specs.Prelude.{◌≡◌, ◌++◌, ◌≤◌, ℕ, OnErr};
 ghost use Rattle.cm_io.specs.Causes.{Rose};
 ghost use Rattle.cm_io.specs.Sink.{PutTakes};

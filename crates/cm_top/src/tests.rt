@@ -1,3 +1,5 @@
+//! Tests of the top call that are no rows of data.
+
 mod failures;
 mod long;
 mod outside;

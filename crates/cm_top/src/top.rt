@@ -1,4 +1,5 @@
-// The top call.
+//! The top call.
+
 ghost use Rattle.std.specs.Prelude.{◌≡◌, ◌≢◌, ◌⊎◌, ℕ, List, map, string_bytes};
 ghost use Rattle.cm_io.specs.Causes.{Rose};
 ghost use Rattle.cm_words.specs.Tasks.{HasNoTask, IsTaskOf};

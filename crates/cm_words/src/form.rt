@@ -1,4 +1,5 @@
-// The forms of the commands, built for clap.
+//! The forms of the commands, built for clap.
+
 ghost use Rattle.std.specs.Prelude.{◌≡◌, false, IfOk};
 ghost use Rattle.clap.specs.Words.{app_of, new_app, rule_of, with_rule};
 ghost use Rattle.cm_words.specs.Forms as Forms;

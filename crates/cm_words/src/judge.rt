@@ -1,4 +1,5 @@
-// The words behind `judge`.
+//! The words behind `judge`.
+
 ghost use Rattle.std.specs.Prelude.{◌≡◌, ◌∷◌, codes, map, string_bytes, IfOk, IsErrOf};
 ghost use Rattle.clap.specs.Words.{app_of};
 ghost use Rattle.cm_words.specs.Tasks.{IsTaskOf, judge_form};

@@ -1,4 +1,5 @@
-// What a form makes of words.
+//! What a form makes of words.
+
 ghost use Rattle.std.specs.Prelude.{◌≡◌, true, map, string_bytes, option_map, None, Some, IfOk, IsErrOf};
 ghost use Rattle.clap.specs.Words.{app_of, first_of, found_of, is_simple, is_simple_and_free, matches_of, rows_of};
 ghost use Rattle.cm_words.specs.Forms.{IsTaken, is_true};

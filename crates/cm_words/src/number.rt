@@ -1,4 +1,5 @@
-// Numbers among the words.
+//! Numbers among the words.
+
 ghost use Rattle.std.specs.Prelude.{ℕ, MatchOption, option_map};
 ghost use Rattle.cm_words.specs.Values.{IsNumberIn, IsNumberOr};
 

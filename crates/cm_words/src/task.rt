@@ -1,3 +1,5 @@
+//! Tasks.
+
 use cm_model::Name;
 
 /// What the words ask for.

@@ -1,2 +1,4 @@
+//! Tests of the words.
+
 mod sample;
 mod tasks;

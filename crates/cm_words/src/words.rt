@@ -1,4 +1,5 @@
-// The words of the command line.
+//! The words of the command line.
+
 ghost use Rattle.std.specs.Prelude.{◌≡◌, map, string_bytes, IfOk, IsErrOf};
 ghost use Rattle.cm_words.specs.Tasks.{IsTaskOf};
 ghost use Rattle.cm_words.specs.declared.task.Task.{Task};

@@ -1,4 +1,5 @@
-// The machine's files and streams.
+//! The machine's files and streams.
+
 ghost use Rattle.std.specs.Prelude.{◌≡◌, ◌↔◌, ◌≤◌, ◌+◌, ◌-◌, ◌^◌, ℕ, List, [], min, string_bytes, IsTrue, IfSome, IsSomeAnd, IfOk, IsOk, OnErr, None, is_ok, length, if◌then◌else◌};
 ghost use Rattle.std.specs.declared.option.Option.{Option};
 ghost use Rattle.cm_io.specs.Causes.{Rose, one_more};

@@ -1,4 +1,5 @@
-// What a failing call of the outside leaves.
+//! What a failing call of the outside leaves.
+
 use super::outside::{Answer, Outside, answers, fair};
 use cm_io::PutFail;
 use cm_posix::posix_text;

@@ -1,4 +1,5 @@
-// Traces that no test holds as bytes: a shelf makes them as they are fetched.
+//! Traces that no test holds as bytes: a shelf makes them as they are fetched.
+
 ghost use Rattle.std.specs.Prelude.{◌≤◌, length, None, IfOk, OnErr};
 ghost use Rattle.cm_io.specs.Causes.{Rose};
 ghost use Rattle.cm_io.specs.Shelf.{Fetches, NoneFalls, SameFiles};

@@ -1,4 +1,5 @@
-// What the program is run on in the tests: a shelf of one file, and two sinks.
+//! What the program is run on in the tests: a shelf of one file, and two sinks.
+
 ghost use Rattle.std.specs.Prelude.{◌≢◌, IfOk};
 ghost use Rattle.std.specs.List.{AllPairs};
 

@@ -1,4 +1,5 @@
-// The lines on outcomes.
+//! The lines on outcomes.
+
 use super::outside::sink;
 use crate::outcome::Outcome;
 use crate::tell::tell;

@@ -1,4 +1,5 @@
-// The parts that commands share, read as a command of the tests' own.
+//! The parts that commands share, read as a command of the tests' own.
+
 ghost use Rattle.std.specs.Prelude.{◌≡◌, ℕ, Bool, map, string_bytes, IfOk, IsErrOf};
 ghost use Rattle.clap.specs.Words.{Text, app_of};
 ghost use Rattle.cm_words.specs.inner.Sample.{IsSample, sample_form};

@@ -1,4 +1,5 @@
-// The tasks of words. Most rows on words are data of `top_cases`.
+//! The tasks of words. Most rows on words are data of `top_cases`.
+
 use crate::{Task, WordsFault, read_words};
 use cm_model::NoMemory;
 use std::alloc::Global;

@@ -1,3 +1,5 @@
+//! Real files, a pipe, a full disk.
+
 use super::*;
 use std::test::Fail;
 use std::{env, fs, process};
