@@ -1,6 +1,6 @@
 //! A larger table.
 
-ghost use Rattle.std.specs.Prelude.{IfOk, IfSome};
+ghost use Rattle.std.specs.Prelude.{◌*◌, ◌≤◌, IfOk, IfSome};
 ghost use Rattle.cm_judge.specs.inner.Table.{EachIsFound, SameRecords};
 
 use crate::slots::{Place, Record, WINDOW, place_for};
@@ -20,7 +20,9 @@ fn doubled(slots: usize) -> usize {
 }
 
 /// How many lines a table of so many slots has before it grows: three quarters of the slots.
-pub(crate) fn limit_of(slots: usize) -> usize {
+pub(crate) fn limit_of(slots: usize) -> usize
+    ensures { 4 * result ≤ 3 * slots }
+{
     slots.saturating_sub(WINDOW - 1) / 4 * 3
 }
 

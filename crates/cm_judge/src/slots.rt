@@ -54,7 +54,7 @@ pub(crate) enum Place {
 }
 
 // How many slots may have a line: the one that its address gives, and those behind it.
-pub(crate) const WINDOW: usize = 32;
+pub(crate) const WINDOW: usize = 256;
 
 // The slots in which a line may be first are fewer than this.
 const MOST: u64 = 0xffff_ffff;

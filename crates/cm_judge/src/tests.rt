@@ -177,16 +177,16 @@ fn judges_chosen_lines(rt: HostRuntime) -> Result<(), Fail> {
     // Times the table's multiplier it is 1, so a small number times it has a hash of 0.
     let inverse = 0xf1de_83e1_9937_733d;
     let mut lines = Vec::new(rt.alloc());
-    for hash in 0..8000u64 {
+    for hash in 0..24000u64 {
         let line = hash.wrapping_mul(inverse);
         if line < 1 << 58 {
             lines.push(64 * line)?;
         }
     }
-    assert!(rt; lines.len() > 64);
+    assert!(rt; lines.len() > 320);
     let mut entries = Vec::new(rt.alloc());
     let mut seed = 1;
-    for _ in 0..12 {
+    for _ in 0..4 {
         for line in &lines {
             seed = next(seed);
             entries.push(access(seed, *line, 64))?;

@@ -11,7 +11,7 @@ use Rattle.cm_judge.specs.declared.slots.Place.TheVariants.{Held, Free, Nowhere}
 
 -- the first slot that may have the line, of so many slots
 unfoldable pub first_slot : ℕ → ℕ → ℕ
-first_slot line slots = (line / 64 * 0x9e37_79b9_7f4a_7c15) % 2 ^ 64 / 2 ^ 32 * min (slots - 32) 0xffff_ffff / 2 ^ 32
+first_slot line slots = (line / 64 * 0x9e37_79b9_7f4a_7c15) % 2 ^ 64 / 2 ^ 32 * min (slots - 256) 0xffff_ffff / 2 ^ 32
 
 -- the slots from the first that may have the line up to this one have other lines
 pub record IsPassed (slots : List Record) (line k : ℕ) : Type 0 where
