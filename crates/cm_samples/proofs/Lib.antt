@@ -12,3 +12,4 @@ pub mod TypedDepth
 pub mod Meanings
 pub mod ExamplesCompute
 pub mod ExamplesOfPairs
+pub mod ExampleOfATest

@@ -6,4 +6,5 @@ pub mod Functions
 pub mod Points
 pub mod Options
 pub mod Depth
+pub mod Yes
 pub mod Examples

@@ -11,6 +11,8 @@ ghost use Rattle.cm_world.specs.Path.{path_of_world};
 ghost use Rattle.cm_world.specs.Shape.{shape_of, signature_of};
 ghost use Rattle.cm_world.specs.OpenPrefix.{IsOpenPrefix};
 ghost use Rattle.cm_world.specs.Over.{IsOverBy};
+ghost use Rattle.cm_world.specs.Tests.{IsTestOf};
+ghost use Rattle.cm_samples.specs.Yes.{yes_tables};
 ghost use Rattle.cm_samples.specs.Counters.{inc_tables, bounded_tables, next_tables};
 ghost use Rattle.cm_samples.specs.Flags.{open_tables};
 
@@ -74,6 +76,11 @@ fn inc_has_more_paths_than_one()
     ensures { IsOverBy inc_tables (pair 0 0) 1 over.Paths }
 {}
 
+/// The calls only reply, so the least world is the one without arguments and exceptions.
+fn the_test_of_two_calls_that_only_reply()
+    ensures { IsTestOf yes_tables (pair 0 0) (record { path = 1 ∷ 1 ∷ 1 ∷ 1 ∷ []; shape = [] }) (world (store [] []) [] []) }
+{}
+
 #[test]
 fn the_definitions_compute() {
     inc_at_3();
@@ -87,4 +94,5 @@ fn the_definitions_compute() {
     open_twice_has_this_signature();
     inc_parts_at_its_first_decision();
     inc_has_more_paths_than_one();
+    the_test_of_two_calls_that_only_reply();
 }
