@@ -4,7 +4,9 @@
 mod form;
 mod judge;
 mod matches;
+mod name;
 mod number;
+mod pair;
 mod posix;
 mod task;
 mod words;
