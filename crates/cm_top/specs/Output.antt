@@ -53,4 +53,5 @@ joined pieces = flat_map (λ p. p) pieces
 
 -- the sink took a prefix of the first pieces, for some number of them
 abbrev pub TakesFront : Option (List ℕ) → Option (List ℕ) → List (List ℕ) → Type 0
-TakesFront old new pieces = (front : List (List ℕ)) × (rest : List (List ℕ)) × (pieces ≡ front ++ rest) × TakesPart old new (joined front)
+TakesFront old new pieces =
+    (front : List (List ℕ)) × (rest : List (List ℕ)) × (pieces ≡ front ++ rest) × TakesPart old new (joined front)

@@ -17,13 +17,15 @@ AreJudged sections judged = AllZip (λ s j. (s.name ≡ j.name) × AreConflictLi
 
 -- all sections ended
 abbrev pub AllEnded : Sections → List Item → Type 0
-AllEnded s its = (sections : List Section) × (its ≡ items_of sections) × AreJudged sections s.ended.items × StandsFor s.judge []
+AllEnded s its =
+    (sections : List Section) × (its ≡ items_of sections) × AreJudged sections s.ended.items × StandsFor s.judge []
 
 -- the sections have these items: none so far, or some that ended and one whose entries the judge has
 abbrev pub HaveFrom : Option (List ℕ) → Sections → List Item → Type 0
 HaveFrom None s its = (its ≡ []) × (s.ended.items ≡ []) × StandsFor s.judge []
 HaveFrom (Some name) s its =
-    (sections : List Section) × (es : List Entry) × (its ≡ items_of sections ++ items.Test name ∷ map items.Entry es) × AreJudged sections s.ended.items × StandsFor s.judge es
+    (sections : List Section) × (es : List Entry) × (its ≡ items_of sections ++ items.Test name ∷ map items.Entry es)
+    × AreJudged sections s.ended.items × StandsFor s.judge es
 
 abbrev pub Have : Sections → List Item → Type 0
 Have s its = HaveFrom s.current s its

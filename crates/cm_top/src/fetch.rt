@@ -40,10 +40,12 @@ fn take_piece<S: Shelf>(
     requires room { most ≤ length buf.old }
     requires small { from + most < 2 ^ 63 }
     requires counted { count_of run.old ≤ from }
-    ensures reads { IfOk result (λ n. (text : List ℕ) → length text ≡ from → HoldsFront (S.held shelf.old name.now) text → HasRead run.old text
-        → (more : List ℕ) × (length more ≡ n) × HoldsFront (S.held shelf.old name.now) (text ++ more) × HasRead run.new (text ++ more)) }
-    ensures end { IfOk result (λ n. n ≡ 0 → (text : List ℕ) → length text ≡ from → HoldsFront (S.held shelf.old name.now) text
-        → HoldsBytes (S.held shelf.old name.now) text) }
+    ensures reads { IfOk result (λ n. (text : List ℕ) → length text ≡ from
+        → HoldsFront (S.held shelf.old name.now) text → HasRead run.old text
+        → (more : List ℕ) × (length more ≡ n)
+        × HoldsFront (S.held shelf.old name.now) (text ++ more) × HasRead run.new (text ++ more)) }
+    ensures end { IfOk result (λ n. n ≡ 0 → (text : List ℕ) → length text ≡ from
+        → HoldsFront (S.held shelf.old name.now) text → HoldsBytes (S.held shelf.old name.now) text) }
     ensures bound { IfOk result (λ n. n ≤ most) }
     ensures counted { IfOk result (λ n. count_of run.new ≤ from + n) }
     ensures failed { IsErrOf result Stop.ReadFault → Rose (S.faults shelf.old name.now) (S.faults shelf.new name.now) }
@@ -74,7 +76,8 @@ fn next_size(from: u64, room: usize) -> usize
 
 /// Fetches a file to its end, or until it has one byte more than the limit, and feeds a run.
 pub fn fetch_run<S: Shelf>(alloc: Global, shelf: &mut S, name: &str) -> Result<Run, Stop>
-    ensures read { IfOk result (λ run. (text : List ℕ) × (length text ≤ LIMIT) × HoldsBytes (S.held shelf.old name.now) text × HasRead run text) }
+    ensures read { IfOk result (λ run. (text : List ℕ) × (length text ≤ LIMIT)
+        × HoldsBytes (S.held shelf.old name.now) text × HasRead run text) }
     ensures failed { IsErrOf result Stop.ReadFault → Rose (S.faults shelf.old name.now) (S.faults shelf.new name.now) }
     ensures too_long { IsErrOf result Stop.TooLong → OfFile (S.held shelf.old name.now) (λ file. LIMIT < length file) }
     ensures stops { IfErr result IsReadStop }

@@ -120,8 +120,8 @@ pub fn commuter<S: Shelf, O: Sink, E: Sink>(
         → ¬ SomeInput (λ i. Rose (S.faults shelf.old i.name) (S.faults shelf.new i.name)) (inputs_of task)
         → (result ≡ Status.Refused) ⊎ (result ≡ Status.Memory) }
 
-    // WriteFault comes only where the count of `out` rose, after the files were accepted; then and at Memory `out` took a
-    // prefix of the first of the wanted pieces, if any.
+    // WriteFault comes only where the count of `out` rose, after the files were accepted; then and at Memory `out` took
+    // a prefix of the first of the wanted pieces, if any.
     ensures write_fault { result ≡ Status.WriteFault → Rose (O.faults out.old) (O.faults out.new) }
     ensures cut_short { (task : Task) → IsTaskOf (map string_bytes words.now) task → result ≡ Status.WriteFault
         → OfFiles (S.held shelf.old) (inputs_of task) (IsCutShort task (O.written out.old) (O.written out.new)) }
@@ -150,7 +150,8 @@ pub fn commuter<S: Shelf, O: Sink, E: Sink>(
           put_now = O.faults out.new;
         }) outcome }
     ensures told_usage { result ≡ Status.Usage
-        → Tells (E.written err.old) (E.written err.new) (E.faults err.old) (E.faults err.new) (told_text Outcome.Usage) }
+        → Tells (E.written err.old) (E.written err.new) (E.faults err.old) (E.faults err.new)
+        (told_text Outcome.Usage) }
 {
     answer(alloc, words, shelf, out, err)
 }
