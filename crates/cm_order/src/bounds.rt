@@ -71,6 +71,14 @@ impl Bounds {
         Ok(IntVar(number as u64))
     }
 
+    /// Tells a proof that some valuation satisfies the bounds, and that the constant 0 is there.
+    pub fn has_valuation(&self)
+        ensures satisfiable { IsSatisfiable self.now }
+        ensures some { 0 < length self.now }
+    {
+        let _ = self.entries.len();
+    }
+
     /// Which of `x + c < y`, `x + c = y` and `x + c > y` some valuation has.
     pub fn may(&self, x: IntVar, c: i64, y: IntVar) -> OrderMask
         requires x { x.0 < length self.now }
@@ -120,6 +128,20 @@ impl Bounds {
         self.add_edge(x, -c - 1, y);
     }
 
+    /// Keeps the valuations with `x + c` at most `y`.
+    pub fn add_le(&mut self, x: IntVar, c: i64, y: IntVar)
+        requires x { x.0 < length self.old }
+        requires y { y.0 < length self.old }
+        requires low { negsuc 999999999 ≤ℤ c }
+        requires high { c ≤ℤ pos 1000000000 }
+        requires may { Allows self.old (λ v. (v x.0 +ℤ c) ≤ℤ v y.0) }
+        ensures kept { Keeps self.old self.new (λ v. (v x.0 +ℤ c) ≤ℤ v y.0) }
+        ensures count { length self.new ≡ length self.old }
+        ensures satisfiable { IsSatisfiable self.new }
+    {
+        self.add_edge(x, -c, y);
+    }
+
     /// Keeps the valuations with `x + c = y`.
     pub fn add_eq(&mut self, x: IntVar, c: i64, y: IntVar)
         requires x { x.0 < length self.old }
@@ -131,7 +153,7 @@ impl Bounds {
         ensures count { length self.new ≡ length self.old }
         ensures satisfiable { IsSatisfiable self.new }
     {
-        self.add_edge(x, -c, y);
+        self.add_le(x, c, y);
         self.add_edge(y, c, x);
     }
 

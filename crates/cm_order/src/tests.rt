@@ -66,6 +66,22 @@ fn one_more_than_another(rt: HostRuntime) -> Result<(), Fail> {
     Ok(())
 }
 
+#[test]
+fn at_most_another(rt: HostRuntime) -> Result<(), Fail> {
+    let mut bounds = Bounds::new(rt.alloc())?;
+    bounds.has_valuation();
+    let x = bounds.fresh(0, 3)?;
+    let y = bounds.fresh(0, 3)?;
+    let order = bounds.may(x, 2, y);
+    assert!(rt; order.eq);
+    bounds.add_le(x, 2, y);
+    assert_eq!(rt; bounds.may(x, 2, y), mask(true, true, false));
+    assert_eq!(rt; bounds.may(x, 1, ZERO), mask(false, false, true));
+    assert_eq!(rt; bounds.may(x, -1, ZERO), mask(true, true, false));
+    assert_eq!(rt; bounds.least(y), 2);
+    Ok(())
+}
+
 type Values = [i8; 4];
 
 fn value(values: &Values, x: usize) -> i8 {
@@ -121,7 +137,7 @@ fn step(rt: &impl Abort, bounds: &mut Bounds, left: &mut Vec<Values>, seed: u32)
     let to = IntVar(y as u64);
     let mask = bounds.may(from, i64::from(c), to);
     assert_eq!(rt; mask, found(left.as_slice(), x, c, y));
-    let choice = (seed >> 20) % 3;
+    let choice = (seed >> 20) % 4;
     if choice == 0 && mask.lt {
         bounds.add_lt(from, i64::from(c), to);
         left.retain(|v| sum(v, x, c) < sum(v, y, 0));
@@ -131,6 +147,9 @@ fn step(rt: &impl Abort, bounds: &mut Bounds, left: &mut Vec<Values>, seed: u32)
     } else if choice == 2 && mask.gt {
         bounds.add_gt(from, i64::from(c), to);
         left.retain(|v| sum(v, x, c) > sum(v, y, 0));
+    } else if choice == 3 && mask.eq {
+        bounds.add_le(from, i64::from(c), to);
+        left.retain(|v| sum(v, x, c) <= sum(v, y, 0));
     }
     assert_eq!(rt; bounds.least(to), least(left.as_slice(), y));
 }
