@@ -127,6 +127,13 @@ impl Classes {
         pairs::mark(&mut self.words, a, b);
     }
 
+    /// Tells a proof that some valuation satisfies the classes.
+    pub fn has_valuation(&self)
+        ensures satisfiable { IsSatisfiable self.now }
+    {
+        let _ = self.variables.len();
+    }
+
     /// Makes room for each `differ` until the next `fresh`.
     pub fn reserve(&mut self) -> Result<(), NoMemory>
         ensures { OnOk result (self.new ≡ record self.old { spare = true }) }

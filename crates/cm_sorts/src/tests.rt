@@ -9,6 +9,7 @@ fn equal_to_one_that_differs(rt: HostRuntime) -> Result<(), Fail> {
     let x = classes.fresh(5)?;
     let y = classes.fresh(5)?;
     let z = classes.fresh(5)?;
+    classes.has_valuation();
     classes.reserve()?;
     assert!(rt; classes.may_equal(x, y));
     assert!(rt; classes.may_differ(x, y));
