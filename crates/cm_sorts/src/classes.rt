@@ -136,7 +136,8 @@ impl Classes {
 
     /// Makes room for each `differ` until the next `fresh`.
     pub fn reserve(&mut self) -> Result<(), NoMemory>
-        ensures { OnOk result (self.new ≡ record self.old { spare = true }) }
+        ensures room { OnOk result (self.new ≡ record self.old { spare = true }) }
+        ensures sorts { self.new.sorts ≡ self.old.sorts }
     {
         words::make_room(&mut self.words, self.variables.len() as u64)
     }

@@ -1,5 +1,6 @@
 use Rattle.std.proofs.Common.{◌≡◌, ◌≤◌, ◌*◌, length, ap, arith}
 use Rattle.std.proofs.lemmas.Result.{on_ok_weaker}
+use Rattle.cm_sorts.specs.Partition.{Partition}
 use Rattle.cm_sorts.specs.Pairs.{pairs_below}
 use Rattle.cm_sorts.specs.Words.{labels_of}
 use Rattle.cm_sorts.proofs.Joining.{roomy, same_proper}
@@ -8,9 +9,12 @@ use Rattle.cm_sorts.proofs.classes.Classes.reserve.Goals as goal
 pub invariant_of-self : goal.invariant_of-self
 invariant_of-self c = same_proper (labels_of c.self.inside.variables.items) c.self.inside.words.items c.make_room.new.words.items c.make_room.ensures.kept c.self.invariant
 
-pub returns : goal.returns
-returns c =
+pub returns-clause-room : goal.returns-clause-room
+returns-clause-room c =
     let long : c.len.result ≡ length c.self.inside.variables.items = omega arith in
     on_ok_weaker c.make_room.result
     (λ (room : pairs_below c.len.result ≤ 64 * length c.make_room.new.words.items). rw (← c.self.view_is) (roomy c.self.inside.variables.items c.self.inside.words.items c.make_room.new.words.items c.make_room.ensures.kept (rw (ap pairs_below long) at room)))
     c.make_room.ensures.room
+
+pub returns-clause-sorts : goal.returns-clause-sorts
+returns-clause-sorts c = ap (λ (p : Partition). p.sorts) c.self.view_is
