@@ -1,0 +1,4 @@
+pub mod CellTable
+pub mod Comparison
+pub mod Touching
+pub mod inner
