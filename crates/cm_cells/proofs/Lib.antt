@@ -1,3 +1,5 @@
 mod Fields
 mod Searching
 mod Tables
+pub mod Related
+pub mod Beside

@@ -20,17 +20,19 @@ module _ {X : Type 0} (f : Cell → X) where
   changed : (cs : List Cell) (i : ℕ) (d : Cell) (x : X) → f d ≡ x → map f (slice_set cs i d) ≡ slice_set (map f cs) i x
   changed cs i d x is = map-set f cs i d ∙ ap (λ y. slice_set (map f cs) i y) is
 
-  through : (g : Cell → Cell) (h : Cell → X) → ((c : Cell) → f (g c) ≡ h c) → (cs : List Cell) → map f (map g cs) ≡ map h cs
+  through : (g : Cell → Cell) (h : Cell → X) → ((c : Cell) → f (g c) ≡ h c) → (cs : List Cell)
+      → map f (map g cs) ≡ map h cs
   through g h e [] = refl
   through g h e (c ∷ cs) = ap (λ x. x ∷ map f (map g cs)) (e c) ∙ ap (λ xs. h c ∷ xs) (through g h e cs)
 
 -- an item that was read at a place
-pub at_place : (cs : List Cell) (i j : ℕ) (c : Cell) → j ≡ i → i < length cs → c ≡ get_or cs j c → slice_get cs i ≡ Some c
+pub at_place : (cs : List Cell) (i j : ℕ) (c : Cell) → j ≡ i → i < length cs → c ≡ get_or cs j c
+    → slice_get cs i ≡ Some c
 at_place cs i j c same lt is = slice_get_read cs (length cs) i c refl lt (is ∙ ap (λ k. get_or cs k c) same)
 
 -- what is read of an item
-pub read_of : {X Y : Type 0} (f : Cell → X) (g : X → Y) (cs : List Cell) (i : ℕ) (c : Cell) → slice_get cs i ≡ Some c
-    → slice_get (map g (map f cs)) i ≡ Some (g (f c))
+pub read_of : {X Y : Type 0} (f : Cell → X) (g : X → Y) (cs : List Cell) (i : ℕ) (c : Cell)
+    → slice_get cs i ≡ Some c → slice_get (map g (map f cs)) i ≡ Some (g (f c))
 read_of f g [] i c at = absurd (cc)
 read_of f g (b ∷ cs) zero c at = let e : b ≡ c = cc in ap (λ x. Some (g (f x))) e
 read_of f g (b ∷ cs) (suc i) c at = read_of f g cs i c at

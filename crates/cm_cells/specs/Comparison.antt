@@ -48,8 +48,10 @@ module _ (X : Type 0) (ask : Question → (ℕ → X) → X) where
   tags_compared a b k = ask (question.TagOf a) (λ d. ask (question.TagOf b) (λ e. k (d == e)))
 
   abbrev pub comparing_step : Term-F (Comparing X) → Comparing X
-  comparing_step (Term-F.Elem x) u k = or_differ (elem_in (out-Term u)) k (λ y. ask (question.Elems x y) (λ d. k (d == 0)))
-  comparing_step (Term-F.Num a) u k = or_differ (num_in (out-Term u)) k (λ b. ask (question.Nums a b) (λ d. k (d == 1)))
+  comparing_step (Term-F.Elem x) u k =
+      or_differ (elem_in (out-Term u)) k (λ y. ask (question.Elems x y) (λ d. k (d == 0)))
+  comparing_step (Term-F.Num a) u k =
+      or_differ (num_in (out-Term u)) k (λ b. ask (question.Nums a b) (λ d. k (d == 1)))
   comparing_step (Term-F.Tag a) u k = or_differ (tag_in (out-Term u)) k (λ b. tags_compared a b k)
   comparing_step (Term-F.Rec ms) u k = or_differ (fields_in (out-Term u)) k (λ us. fields_compared X ms us k)
   -- a key holds no option

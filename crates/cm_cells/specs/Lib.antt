@@ -1,4 +1,5 @@
 pub mod CellTable
 pub mod Comparison
 pub mod Touching
+pub mod Alike
 pub mod inner

@@ -37,7 +37,8 @@ pub fn push(
     key: Option<Term>,
     initial: Term,
 ) -> Result<(), NoMemory>
-    ensures added { OnOk result (table_of cells.new.items ≡ with_cell (table_of cells.old.items) (place state key) initial) }
+    ensures added { OnOk result
+        (table_of cells.new.items ≡ with_cell (table_of cells.old.items) (place state key) initial) }
     ensures count { OnOk result (length cells.new.items ≡ suc (length cells.old.items)) }
     ensures unchanged { OnErr result (cells.new.items ≡ cells.old.items) }
 {

@@ -9,7 +9,7 @@ mod search;
 
 pub use cells::{Cells, CellsFault};
 pub use order::Order;
-pub use search::Touched;
+pub use search::{Touched, touch_as_values_do};
 
 #[cfg(test)]
 mod tests;

@@ -1,12 +1,16 @@
 //! A touch: the new cell is compared with those that were touched before it.
 
-ghost use Rattle.std.specs.Prelude.{◌≡◌, ◌≤◌, map, length};
+ghost use Rattle.std.specs.Prelude.{◌≡◌, ◌≤◌, ℕ, List, map, length, IsTrue};
 ghost use Rattle.std.specs.Option.{option_copied};
 ghost use Rattle.cm_model.specs.Limits.{cell_limit};
-ghost use Rattle.cm_cells.specs.CellTable.{place};
-ghost use Rattle.cm_cells.specs.Touching.{next_of};
+ghost use Rattle.cm_cells.specs.CellTable.{Place, place};
+ghost use Rattle.cm_cells.specs.Touching.{next_of, touching};
+ghost use Rattle.cm_cells.specs.Alike.{all_keys_alike, cell_under, logs_under};
 ghost use Rattle.cm_cells.specs.inner.Meeting.{Meets};
 ghost use Rattle.cm_cells.specs.inner.Kept.{place_of};
+ghost use Rattle.cm_term.specs.Valuation.{Valuation};
+ghost use Rattle.cm_eval.specs.Run.{Trace, touch_of};
+ghost use Rattle.cm_eval.specs.State as eval;
 
 use crate::cell::Cell;
 use crate::compare::{self, Met};
@@ -53,3 +57,12 @@ fn meet<'a>(state: u16, key: Option<&Term>, cell: &Cell, answers: &'a [u8]) -> M
         (Some(_), None) => Met::Told(false, answers),
     }
 }
+
+/// Under a valuation a touch of terms goes as the evaluator's touch of their values: it asks what that one decides,
+/// in the same order, finds the same cell, or none.
+pub fn touch_as_values_do()
+    ensures beside { (v : Valuation) (ps : List Place) (p : Place) → IsTrue (all_keys_alike v p ps) →
+        (t : eval.Touched) (found : ℕ → Trace) (fresh : Trace) →
+        touch_of (map (cell_under v) ps) 0 (cell_under v p) t found fresh
+        ≡ touching Trace (logs_under v t) ps 0 p found fresh }
+{}

@@ -11,7 +11,8 @@ loop-i-preserved c =
     ∙ anew_more c.args.order c.loop-i.i c.args.cells.now.items c.index_mut.result.now
     (subst (λ cs. slice_get cs c.loop-i.i ≡ Some c.index_mut.result.now) c.loop-i.invariant
     (at_place c.loop-i.cells.items c.loop-i.i c.loop-i.i c.index_mut.result.now refl
-    (let same = ap length c.loop-i.invariant ∙ anew_length c.args.order c.loop-i.i c.args.cells.now.items in omega arith)
+    (let same = ap length c.loop-i.invariant ∙ anew_length c.args.order c.loop-i.i c.args.cells.now.items in
+    omega arith)
     c.index_mut.ensures.value))
 
 -- src/cell.rt:134:1
