@@ -1,0 +1,8 @@
+use Rattle.std.proofs.Common.{◌≡◌, ◌++◌, ◌↔◌, ℕ, map, take}
+use Rattle.cm_sorts.specs.Partition as sorts
+use Rattle.cm_ctx.specs.declared.piece.ElementPart.{ElementPart}
+use Rattle.cm_ctx.proofs.Adding.{SameElements}
+use Rattle.cm_ctx.proofs.grown.with_elements.Given as goal
+
+abbrev pub invariant-parts : goal.invariant-parts
+invariant-parts l = SameElements l.classes l.grown (take l.part-index l.parts)

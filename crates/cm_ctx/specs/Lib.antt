@@ -1,0 +1,10 @@
+pub mod Masks
+pub mod Choices
+pub mod Making
+pub mod Growth
+pub mod Contexts
+pub mod Giving
+pub mod Grown
+pub mod Asking
+pub mod Proper
+pub mod Knowing
