@@ -34,7 +34,7 @@ use Rattle.cm_cells.specs.Comparison.{comparing, comparing_step, fields_compared
 use Rattle.cm_cells.specs.Touching.{places_compared, keys_compared, touching}
 use Rattle.cm_cells.specs.Alike.{cell_under, is_there, is_variant, is_variant_in, all_alike, fields_alike, alike, alike_step, keys_alike, all_keys_alike}
 
-whole : (u : Term) (y : Term-F Term) → out-Term u ≡ y → u ≡ roll-Term y
+pub whole : (u : Term) (y : Term-F Term) → out-Term u ≡ y → u ≡ roll-Term y
 whole u y is = sym (roll-out-Term u) ∙ ap roll-Term is
 
 small : (n : ℕ) → ltb n variant_limit ≡ true → eval.variant n ≡ Some n

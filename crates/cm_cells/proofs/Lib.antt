@@ -3,3 +3,4 @@ mod Searching
 mod Tables
 pub mod Related
 pub mod Beside
+pub mod OneType

@@ -1,7 +1,11 @@
 -- The touch of terms beside the touch of their values: cells under a valuation, and keys that are alike.
 use Rattle.std.specs.Prelude.{ℕ, ◌==◌, ltb, Bool, true, false, ◌&&◌, List, [], ◌∷◌, Option, Some, None, if◌then◌else◌}
+use Rattle.std.specs.List.{list_all}
 use Rattle.std.specs.Option.{option_map}
 use Rattle.cm_model.specs.Limits.{variant_limit}
+use Rattle.cm_value.specs.declared.value.Value.{Value}
+use Rattle.cm_value.specs.declared.value.Value.TheOpen.{Value-F}
+use Rattle.cm_value.specs.declared.value.Value.TheFolds.{fold-Value}
 use Rattle.cm_term.specs.declared.atom.Tag.{Tag}
 use Rattle.cm_term.specs.declared.term.Term.{Term, out-Term}
 use Rattle.cm_term.specs.declared.term.Term.TheOpen.{Term-F}
@@ -55,7 +59,7 @@ alike_step v Term-F.None u = false
 alike_step v (Term-F.Some m) u = false
 alike_step v (Term-F.Either o) u = false
 
--- two keys of one form, without options, their variants those that an enum may have: so are two keys of one type
+-- two keys of one form, without options, their variants those that an enum may have
 abbrev pub alike : Valuation → Term → Term → Bool
 alike v = fold-Term (Term → Bool) (alike_step v)
 
@@ -69,3 +73,15 @@ keys_alike v None (Some u) = false
 abbrev pub all_keys_alike : Valuation → Place → List Place → Bool
 all_keys_alike v p [] = true
 all_keys_alike v p (q ∷ qs) = (if p.state == q.state then keys_alike v p.key q.key else true) && all_keys_alike v p qs
+
+abbrev pub plain_step : Value-F Bool → Bool
+plain_step (Value-F.Elem n) = true
+plain_step (Value-F.Int n) = true
+plain_step (Value-F.Tag n) = true
+plain_step (Value-F.Rec parts) = list_all (λ part. part) parts
+plain_step Value-F.None = false
+plain_step (Value-F.Some payload) = false
+
+-- no option is in a value, as in each key of a model
+abbrev pub is_without_options : Value → Bool
+is_without_options = fold-Value Bool plain_step

@@ -5,10 +5,16 @@ ghost use Rattle.std.specs.Option.{option_copied};
 ghost use Rattle.cm_model.specs.Limits.{cell_limit};
 ghost use Rattle.cm_cells.specs.CellTable.{Place, place};
 ghost use Rattle.cm_cells.specs.Touching.{next_of, touching};
-ghost use Rattle.cm_cells.specs.Alike.{all_keys_alike, cell_under, logs_under};
+ghost use Rattle.cm_cells.specs.Alike.{alike, all_keys_alike, cell_under, is_without_options, logs_under};
 ghost use Rattle.cm_cells.specs.inner.Meeting.{Meets};
 ghost use Rattle.cm_cells.specs.inner.Kept.{place_of};
+ghost use Rattle.cm_model.specs.Tables.{Tables};
+ghost use Rattle.cm_model.specs.WellTyped.{IsWellTyped};
+ghost use Rattle.cm_model.specs.declared.ty.Ty.{Ty};
+ghost use Rattle.cm_value.specs.Membership.{IsValueOf};
+ghost use Rattle.cm_term.specs.declared.term.Term.{Term};
 ghost use Rattle.cm_term.specs.Valuation.{Valuation};
+ghost use Rattle.cm_term.specs.Terms.{value_of};
 ghost use Rattle.cm_eval.specs.Run.{Trace, touch_of};
 ghost use Rattle.cm_eval.specs.State as eval;
 
@@ -59,8 +65,11 @@ fn meet<'a>(state: u16, key: Option<&Term>, cell: &Cell, answers: &'a [u8]) -> M
 }
 
 /// Under a valuation a touch of terms goes as the evaluator's touch of their values: it asks what that one decides,
-/// in the same order, finds the same cell, or none.
+/// in the same order, finds the same cell, or none. It wants keys that are alike, as those of one type are.
 pub fn touch_as_values_do()
+    ensures alike { (m : Tables) → IsWellTyped m → (v : Valuation) (ty : Ty) (t u : Term) →
+        IsValueOf m ty (value_of v t) → IsValueOf m ty (value_of v u) → IsTrue (is_without_options (value_of v t)) →
+        IsTrue (alike v t u) }
     ensures beside { (v : Valuation) (ps : List Place) (p : Place) → IsTrue (all_keys_alike v p ps) →
         (t : eval.Touched) (found : ℕ → Trace) (fresh : Trace) →
         touch_of (map (cell_under v) ps) 0 (cell_under v p) t found fresh
