@@ -8,6 +8,10 @@ use Rattle.cm_term.specs.declared.symbol.Root.{Root}
 use Rattle.cm_term.specs.declared.symbol.Root.TheVariants as root
 use Rattle.cm_term.specs.declared.symbol.Sym.{Sym}
 
+-- how many steps of a path stand in place
+abbrev pub steps_in_place : ℕ
+steps_in_place = 8
+
 abbrev pub field_in : ℕ → Value-F Value → Option Value
 field_in i (Value-F.Rec vs) = slice_get vs i
 field_in i _ = None

@@ -1,6 +1,7 @@
 //! Symbols: named parts of arguments and of cells.
 
-ghost use Rattle.std.specs.Prelude.{◌≡◌, [], ◌∷◌, ◌++◌, IfOk};
+ghost use Rattle.std.specs.Prelude.{◌≡◌, ◌<◌, ◌≤◌, [], ◌∷◌, ◌++◌, length, IfOk, IsOk};
+ghost use Rattle.cm_term.specs.Symbols.{steps_in_place};
 
 use cm_model::NoMemory;
 use smallvec::SmallVec;
@@ -38,12 +39,13 @@ pub struct Sym {
 }
 
 impl Sym {
-    /// An equal symbol.
+    /// An equal symbol. It takes no memory where its steps stand in place.
     ///
     /// # Errors
     /// `NoMemory` where memory runs out.
     pub fn try_copy(&self) -> Result<Sym, NoMemory>
         ensures equal { IfOk result (λ copy. copy ≡ self.now) }
+        ensures in_place { length self.now.path ≤ steps_in_place → IsOk result }
     {
         let path = self.path.try_copy()?;
         Ok(Sym {
@@ -78,24 +80,26 @@ impl SymPath {
         }
     }
 
-    /// The path with one more step.
+    /// The path with one more step. It takes no memory where that one stands in place too.
     ///
     /// # Errors
     /// `NoMemory` where memory runs out.
     pub fn then(&self, step: Step) -> Result<SymPath, NoMemory>
         ensures steps { IfOk result (λ p. p ≡ self.now ++ step ∷ []) }
+        ensures in_place { length self.now < steps_in_place → IsOk result }
     {
         let mut steps = SmallVec::from_slice(*self.steps.allocator(), self.steps.as_slice())?;
         steps.push(step)?;
         Ok(SymPath { steps })
     }
 
-    /// An equal path.
+    /// An equal path. It takes no memory where the steps stand in place.
     ///
     /// # Errors
     /// `NoMemory` where memory runs out.
     pub fn try_copy(&self) -> Result<SymPath, NoMemory>
         ensures equal { IfOk result (λ copy. copy ≡ self.now) }
+        ensures in_place { length self.now ≤ steps_in_place → IsOk result }
     {
         let steps = SmallVec::from_slice(*self.steps.allocator(), self.steps.as_slice())?;
         Ok(SymPath { steps })
