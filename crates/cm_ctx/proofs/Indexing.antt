@@ -18,12 +18,12 @@ payloads_append (q ∷ ps) p =
     ap (λ ts. payloads_in q.variables.options ++ ts) (payloads_append ps p)
     ∙ sym (append_assoc (payloads_in q.variables.options) (payloads_of ps) (payloads_in p.variables.options))
 
-get_left : {A : Type 0} (xs ys : List A) (i : ℕ) → i < length xs → slice_get (xs ++ ys) i ≡ slice_get xs i
+pub get_left : {A : Type 0} (xs ys : List A) (i : ℕ) → i < length xs → slice_get (xs ++ ys) i ≡ slice_get xs i
 get_left [] ys i lt = absurd (omega arith)
 get_left (x ∷ xs) ys zero lt = refl
 get_left (x ∷ xs) ys (suc i) lt = get_left xs ys i (omega arith)
 
-get_right : {A : Type 0} (xs ys : List A) (i j : ℕ) → i ≡ length xs + j → slice_get (xs ++ ys) i ≡ slice_get ys j
+pub get_right : {A : Type 0} (xs ys : List A) (i j : ℕ) → i ≡ length xs + j → slice_get (xs ++ ys) i ≡ slice_get ys j
 get_right [] ys i j e = ap (slice_get ys) (let same : i ≡ j = omega arith in same)
 get_right (x ∷ xs) ys zero j e = absurd (omega arith)
 get_right (x ∷ xs) ys (suc i) j e = get_right xs ys i j (omega arith)

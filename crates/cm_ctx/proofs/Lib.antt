@@ -17,3 +17,5 @@ pub mod Starting
 pub mod Indexing
 pub mod Piecing
 pub mod Forms
+pub mod Good
+pub mod Rows

@@ -17,14 +17,16 @@ use Rattle.cm_ctx.specs.declared.piece.OptionPart.{OptionPart}
 use Rattle.cm_ctx.specs.declared.piece.Piece.{Piece}
 use Rattle.cm_ctx.specs.Choices.{Fits, choice_of, IsChoice, AreChoices}
 use Rattle.cm_ctx.specs.Choices as choices
-use Rattle.cm_ctx.specs.Making.{counts, counted}
+use Rattle.cm_ctx.specs.Making.{counts, counted, first_counts}
 use Rattle.cm_ctx.specs.Giving.{EachFrom, Gives, Agree, HasPayload}
 use Rattle.cm_ctx.specs.Contexts.{Context, context, counts_of, payloads_in, payloads_of, Holds, Satisfies, Keeps}
+use Rattle.cm_ctx.specs.Asking.{InRow}
 use Rattle.cm_ctx.specs.Proper.{IsEarlier, AreEarlier, IsProper}
 use Rattle.cm_ctx.specs.Grown.{LiesIn, AreEnums, IsEnum, tag_choices, option_choices, RestsBelow, IsFitting, Grows}
 use Rattle.cm_ctx.proofs.Each.{each_there_append, each_map, each_so, each_pair}
 use Rattle.cm_ctx.proofs.Indexing.{payloads_append}
 use Rattle.cm_ctx.proofs.Ranges.{all_append}
+use Rattle.cm_ctx.proofs.Rows.{row_more}
 
 -- a choice that nothing is known of has any of its numbers
 free_fits : (n m : ℕ) → Fits (choice_of n) m ↔ (m < n)
@@ -162,6 +164,7 @@ module _ (n : Counts) (c : Context) (proper : IsProper n c) (p : Piece) (fit : I
     options = all_append IsChoice c.options (option_choices p.variables.options) proper.options
         (all_map IsChoice (λ (d : OptionPart). choice_of 2) p.variables.options (λ i d at. choice_proper 2 (omega arith) (omega arith)));
     payloads = as_many_options ∙ ap (λ x. x + length p.variables.options) proper.payloads ∙ sym as_many_payloads;
+    row = subst (InRow first_counts (c.pieces ++ p ∷ [])) (sym counts_more) (row_more first_counts (counts_of c) c.pieces p proper.row from);
     earlier = earlier_more c.pieces p proper.earlier fit row;
   }
 

@@ -128,7 +128,7 @@ abbrev pub AllSound : List Maker → Type 0
 AllSound [] = Unit {0}
 AllSound (m ∷ ms) = Sound m × AllSound ms
 
-sound_fields : (i : ℕ) (ms : List Maker) → AllSound ms → SoundFields (fields_made i ms)
+pub sound_fields : (i : ℕ) (ms : List Maker) → AllSound ms → SoundFields (fields_made i ms)
 sound_fields i [] s = record { see = λ p. tt; grounded = λ p. record { payloads = tt } }
 sound_fields i (m ∷ ms) s = record {
   see = λ p.

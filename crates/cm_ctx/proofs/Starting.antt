@@ -25,5 +25,6 @@ other_spare n k b ts os ps s h = record {
   tags = h.tags;
   options = h.options;
   payloads = h.payloads;
+  row = h.row;
   earlier = h.earlier;
 }

@@ -2,7 +2,11 @@
 use Rattle.std.specs.Prelude.{◌≡◌, ◌≢◌, ◌<◌, ◌≤◌, ◌+◌, ◌-◌, ◌*◌, ◌==◌, ℕ, if◌then◌else◌, List, [], ◌∷◌, length, slice_get, slice_index_or, Some}
 use Rattle.cm_term.specs.declared.symbol.Root.{Root}
 use Rattle.cm_term.specs.declared.symbol.Root.TheVariants as root
+use Rattle.cm_term.specs.declared.term.Term.{Term}
+use Rattle.cm_term.specs.Valuation.{Var, OfElement, OfNumber, OfTag, OfOption}
+use Rattle.cm_ctx.specs.declared.piece.Counts.{Counts}
 use Rattle.cm_ctx.specs.declared.piece.Piece.{Piece}
+use Rattle.cm_ctx.specs.Making.{counted}
 use Rattle.cm_ctx.specs.Contexts.{payloads_in, payloads_of}
 
 -- this was made for a symbol
@@ -12,6 +16,26 @@ IsAmong ps p = (k : ℕ) × (slice_get ps k ≡ Some p)
 -- the symbol of this root wasn't asked for
 abbrev pub IsNew : List Piece → Root → Type 0
 IsNew ps r = (p : Piece) → IsAmong ps p → p.root ≢ r
+
+-- the term of an option's payload
+pub record IsPayload (ps : List Piece) (o : ℕ) (t : Term) : Type 0 where
+  pub piece : Piece
+  pub among : IsAmong ps piece
+  pub place : ℕ
+  pub here : slice_get (payloads_in piece.variables.options) place ≡ Some t
+  pub number : o ≡ piece.from.options + place
+
+-- pieces whose variables stand one behind another, from so many on to so many
+abbrev pub InRow : Counts → List Piece → Counts → Type 0
+InRow from [] end = from ≡ end
+InRow from (p ∷ ps) end = (p.from ≡ from) × InRow (counted from p.variables) ps end
+
+-- a variable was made for the piece's symbol
+abbrev pub Owns : Piece → Var → Type 0
+Owns p (OfElement x) = (p.from.elements ≤ x) × (x < p.from.elements + length p.variables.elements)
+Owns p (OfNumber x) = (p.from.numbers ≤ x) × (x < p.from.numbers + length p.variables.numbers)
+Owns p (OfTag x) = (p.from.tags ≤ x) × (x < p.from.tags + length p.variables.tags)
+Owns p (OfOption x) = (p.from.options ≤ x) × (x < p.from.options + length p.variables.options)
 
 -- another number for each root
 abbrev pub number_of : Root → ℕ

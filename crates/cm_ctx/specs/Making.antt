@@ -32,6 +32,10 @@ use Rattle.cm_ctx.specs.declared.piece.Piece.{Piece}
 abbrev pub counts : ℕ → ℕ → ℕ → ℕ → Counts
 counts e n t o = record { elements = e; numbers = n; tags = t; options = o }
 
+-- those of a new context: the constant 0 alone
+abbrev pub first_counts : Counts
+first_counts = counts 0 1 0 0
+
 abbrev pub variables : List ElementPart → List NumberPart → List TagPart → List OptionPart → Variables
 variables es ns ts os = record { elements = es; numbers = ns; tags = ts; options = os }
 

@@ -9,6 +9,8 @@ use Rattle.cm_term.specs.Terms.{value_of}
 use Rattle.cm_ctx.specs.declared.choice.Choice.{Choice}
 use Rattle.cm_ctx.specs.declared.piece.Counts.{Counts}
 use Rattle.cm_ctx.specs.Choices.{AreChoices}
+use Rattle.cm_ctx.specs.Making.{first_counts}
+use Rattle.cm_ctx.specs.Asking.{InRow}
 use Rattle.cm_ctx.specs.Contexts.{Context, counts_of, payloads_of}
 
 -- the value of a term rests on no payload but those of the options below k
@@ -27,4 +29,5 @@ pub record IsProper (n : Counts) (c : Context) : Type 0 where
   pub tags : AreChoices c.tags
   pub options : AreChoices c.options
   pub payloads : length c.options ≡ length (payloads_of c.pieces)
+  pub row : InRow first_counts c.pieces (counts_of c)
   pub earlier : AreEarlier (payloads_of c.pieces)

@@ -7,14 +7,15 @@ ghost use Rattle.cm_value.specs.declared.value.Value.{Value};
 ghost use Rattle.cm_term.specs.Valuation.{Valuation};
 ghost use Rattle.cm_term.specs.Questions.{outcome_under};
 ghost use Rattle.cm_term.specs.Terms.{value_of};
+ghost use Rattle.cm_term.specs.declared.term.Term.{Term};
 ghost use Rattle.cm_ctx.specs.declared.choice.Choice.{Choice};
 ghost use Rattle.cm_ctx.specs.declared.piece.ElementPart.{ElementPart};
 ghost use Rattle.cm_ctx.specs.declared.piece.Piece.{Piece};
 ghost use Rattle.cm_ctx.specs.Masks.{Has};
-ghost use Rattle.cm_ctx.specs.Making.{counted, piece_of, variables};
-ghost use Rattle.cm_ctx.specs.Giving.{Gives};
+ghost use Rattle.cm_ctx.specs.Making.{Place, counted, made_of, piece_of, variables};
+ghost use Rattle.cm_ctx.specs.Giving.{Gives, Agree};
 ghost use Rattle.cm_ctx.specs.Grown.{IsFitting, Grows};
-ghost use Rattle.cm_ctx.specs.Asking.{IsAmong, IsNew};
+ghost use Rattle.cm_ctx.specs.Asking.{IsAmong, IsNew, IsPayload};
 ghost use Rattle.cm_ctx.specs.Contexts.{Satisfies, Allows, Keeps, Implies, IsSatisfiable, IsQuestion, HasSpare, counts_of, payloads_of};
 ghost use Rattle.cm_ctx.specs.Knowing.{known_of};
 
@@ -182,6 +183,14 @@ impl Ctx {
         self.asked.get().payload(o.0)
     }
 
+    /// The same, for those who know which symbol the option is part of.
+    pub(crate) fn payload_by(&self, o: OptVar) -> &Term
+        requires { (t : Term) × IsPayload self.now.pieces o.0 t }
+        ensures { (t : Term) → IsPayload self.now.pieces o.0 t → result.now ≡ t }
+    {
+        self.asked.get().payload(o.0)
+    }
+
     /// The term that was made for the symbol of this root. It takes no memory.
     pub fn term_at(&self, root: Root) -> &Term
         requires { (p : Piece) × IsAmong self.now.pieces p × (p.root ≡ root) }
@@ -336,4 +345,16 @@ fn no_variables(alloc: Global) -> Variables
         tags: List::new(alloc),
         options: List::new(alloc),
     }
+}
+
+/// Tells a proof that each valuation gives the term of a type a value of the type, and that each value of the type
+/// is given, whatever the variables before are.
+pub fn terms_have_values(model: &Model, ty: &Ty)
+    requires { IsType model.now ty.now }
+    ensures typed { (p : Place) (v : Valuation) → Gives p.from (made_of model.now ty.now p).variables v → IsValueOf model.now ty.now (value_of v (made_of model.now ty.now p).term) }
+    ensures free { (p : Place) (v : Valuation) (x : Value) → IsValueOf model.now ty.now x
+        → (w : Valuation) × Agree p.from v w × Gives p.from (made_of model.now ty.now p).variables w × (value_of w (made_of model.now ty.now p).term ≡ x) }
+{
+    model.well_typed();
+    let _ = ty;
 }

@@ -5,6 +5,7 @@ mod asked;
 mod choice;
 mod context;
 mod elements;
+mod facts;
 mod grown;
 mod making;
 mod mask;
@@ -13,7 +14,8 @@ mod piece;
 mod steps;
 
 pub use choice::{Choice, Known};
-pub use context::Ctx;
+pub use context::{Ctx, terms_have_values};
+pub use facts::Facts;
 pub use mask::Mask;
 pub use piece::{Counts, ElementPart, NumberPart, OptionPart, Piece, TagPart, Variables};
 pub use steps::Steps;

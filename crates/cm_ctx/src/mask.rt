@@ -7,6 +7,16 @@ ghost use Rattle.cm_ctx.specs.Masks.{Has, third_of};
 #[derive(Clone, Copy, Debug, PartialEq, Eq)]
 pub struct Mask(pub u64);
 
+impl Mask {
+    /// Whether the outcome is among these.
+    pub fn has(self, outcome: u8) -> bool
+        requires { outcome < 64 }
+        ensures { IsTrue result ↔ Has self.0 outcome }
+    {
+        (self.0 >> outcome) & 1 == 1
+    }
+}
+
 fn bit(is_set: bool, value: u64) -> u64
     ensures { result ≡ (if is_set then value else 0) }
 {

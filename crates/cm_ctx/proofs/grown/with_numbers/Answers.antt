@@ -1,20 +1,15 @@
 use Rattle.std.proofs.Common.{◌≡◌, arith, sym, subst, take}
-use Rattle.cm_ctx.specs.Grown.{IsRange}
 use Rattle.cm_ctx.proofs.Adding.{MoreNumbers, at_item, numbers_start, numbers_more, take_all, same_end, same_low, same_high}
 use Rattle.cm_ctx.proofs.grown.with_numbers.Goals as goal
-use Rattle.cm_ctx.proofs.grown.with_numbers.Goals.{After-fresh-arg-in-parts-1}
-
-range : (c : After-fresh-arg-in-parts-1) → IsRange c.part-item.result
-range c = c.requires c.parts.part-index c.part-item.result (at_item c.args.parts.now c.parts.part-index c.part-item.result (omega arith) c.part-item.is)
 
 pub fresh-requires-clause-low : goal.fresh-requires-clause-low
-fresh-requires-clause-low c = let r = range c in rw (same_low _ r) r.low
+fresh-requires-clause-low c = let r = c.requires c.parts.part-index c.part-item.result (at_item c.args.parts.now c.parts.part-index c.part-item.result (omega arith) c.part-item.is) in rw (same_low _ r) r.low
 
 pub fresh-requires-clause-order : goal.fresh-requires-clause-order
-fresh-requires-clause-order c = let r = range c in rw (same_low _ r, same_high _ r) r.order
+fresh-requires-clause-order c = let r = c.requires c.parts.part-index c.part-item.result (at_item c.args.parts.now c.parts.part-index c.part-item.result (omega arith) c.part-item.is) in rw (same_low _ r, same_high _ r) r.order
 
 pub fresh-requires-clause-high : goal.fresh-requires-clause-high
-fresh-requires-clause-high c = let r = range c in rw (same_high _ r) r.high
+fresh-requires-clause-high c = let r = c.requires c.parts.part-index c.part-item.result (at_item c.args.parts.now c.parts.part-index c.part-item.result (omega arith) c.part-item.is) in rw (same_high _ r) r.high
 
 pub parts-preserved : goal.parts-preserved
 parts-preserved c =
