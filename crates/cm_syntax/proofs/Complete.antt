@@ -16,7 +16,7 @@ use Rattle.cm_syntax.specs.declared.tree.Stmt.TheOpen as stmt_layer
 use Rattle.cm_syntax.specs.declared.tree.Stmt.TheViews.{roll-Stmt, roll-Block}
 use Rattle.cm_syntax.specs.declared.tree.Stmt.TheFolds.{ind-Block, map-Stmt, map-Block, fold-roll-Stmt, fold-roll-Block}
 use Rattle.cm_syntax.specs.declared.tree.Expr.{Expr}
-use Rattle.cm_syntax.specs.declared.tree.Prim.{Prim}
+use Rattle.cm_syntax.specs.declared.tree.Primary.{Primary}
 use Rattle.cm_syntax.specs.Form.{Places, Form, nothing, word, part, node, each_after}
 use Rattle.cm_syntax.specs.Spelling.{names_after, listed, each, num_form, type_form, part_form, stmt_step, block_step, expr_form, stmt_form, block_form, internal_form, decl_form, tree_form}
 use Rattle.cm_syntax.specs.Text.{place_of}

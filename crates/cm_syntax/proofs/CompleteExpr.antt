@@ -20,8 +20,8 @@ use Rattle.cm_syntax.specs.declared.tree.Expr.TheVariants as expr
 use Rattle.cm_syntax.specs.declared.tree.Cmp.{Cmp}
 use Rattle.cm_syntax.specs.declared.tree.Cmp.TheVariants as cmp
 use Rattle.cm_syntax.specs.declared.tree.Cmp.TheOpen as layer
-use Rattle.cm_syntax.specs.declared.tree.Cmp.TheViews.{roll-Cmp, roll-Expr, roll-Prim, roll-Sum, roll-Unary, roll-Post, roll-Set}
-use Rattle.cm_syntax.specs.declared.tree.Cmp.TheFolds.{ind-Expr, map-Cmp, map-Expr, map-Prim, map-Sum, map-Unary, map-Post, map-Set, fold-roll-Cmp, fold-roll-Expr, fold-roll-Prim, fold-roll-Sum, fold-roll-Unary, fold-roll-Post, fold-roll-Set}
+use Rattle.cm_syntax.specs.declared.tree.Cmp.TheViews.{roll-Cmp, roll-Expr, roll-Primary, roll-Sum, roll-Unary, roll-Post, roll-Set}
+use Rattle.cm_syntax.specs.declared.tree.Cmp.TheFolds.{ind-Expr, map-Cmp, map-Expr, map-Primary, map-Sum, map-Unary, map-Post, map-Set, fold-roll-Cmp, fold-roll-Expr, fold-roll-Primary, fold-roll-Sum, fold-roll-Unary, fold-roll-Post, fold-roll-Set}
 use Rattle.cm_syntax.specs.declared.tree.Relation.{Relation}
 use Rattle.cm_syntax.specs.declared.tree.Relation.TheVariants as relation
 use Rattle.cm_syntax.specs.declared.tree.Sum.{Sum}
@@ -30,8 +30,8 @@ use Rattle.cm_syntax.specs.declared.tree.Unary.{Unary}
 use Rattle.cm_syntax.specs.declared.tree.Unary.TheVariants as unary
 use Rattle.cm_syntax.specs.declared.tree.Post.{Post}
 use Rattle.cm_syntax.specs.declared.tree.Set.{Set}
-use Rattle.cm_syntax.specs.declared.tree.Prim.{Prim}
-use Rattle.cm_syntax.specs.declared.tree.Prim.TheVariants as prim
+use Rattle.cm_syntax.specs.declared.tree.Primary.{Primary}
+use Rattle.cm_syntax.specs.declared.tree.Primary.TheVariants as prim
 use Rattle.cm_syntax.specs.declared.tails.AfterName.TheVariants as after
 use Rattle.cm_syntax.specs.declared.tails.Offset.TheVariants as offset
 use Rattle.cm_syntax.specs.declared.tails.RightSide.TheVariants as right
@@ -351,7 +351,7 @@ module _ (at : Places) (nowhere : at [] ≡ place_of []) where
   abbrev GoodPost : Form Post → Type 0
   GoodPost = Good APost (Above 3) begins_post
 
-  abbrev GoodPrim : Form Prim → Type 0
+  abbrev GoodPrim : Form Primary → Type 0
   GoodPrim = Good APrim (Above 1) begins_post
 
   abbrev GoodSet : Form Set → Type 0
@@ -438,7 +438,7 @@ module _ (at : Places) (nowhere : at [] ≡ place_of []) where
   fields_high [] ts h = omega arith
   fields_high (n ∷ ns) ts h = lit< tt
 
-  post_good : (f : Form Prim) (ns : List (List ℕ)) (fs : List (Form Set)) → GoodPrim f → Each GoodSet fs → GoodPost (node (λ a y. post_of a y.0 ns y.1.0) (part f (written (names_after token.Dot ns) (part (sets_form fs) nothing))))
+  post_good : (f : Form Primary) (ns : List (List ℕ)) (fs : List (Form Set)) → GoodPrim f → Each GoodSet fs → GoodPost (node (λ a y. post_of a y.0 ns y.1.0) (part f (written (names_after token.Dot ns) (part (sets_form fs) nothing))))
   post_good f ns fs h each = record {
     taken = λ st k ts ok.
         let us : List Token = (sets_form fs).writes ts in
@@ -613,7 +613,7 @@ module _ (at : Places) (nowhere : at [] ≡ place_of []) where
   GExpr = (x : Expr) × GoodExpr (expr_form x)
 
   abbrev GPrim : Type 0
-  GPrim = (x : Prim) × GoodPrim (prim_form x)
+  GPrim = (x : Primary) × GoodPrim (prim_form x)
 
   abbrev GSum : Type 0
   GSum = (x : Sum) × GoodSum (sum_form x)
@@ -639,22 +639,22 @@ module _ (at : Places) (nowhere : at [] ≡ place_of []) where
   each_set [] = tt
   each_set (x ∷ xs) = (x.1, each_set xs)
 
-  cmp_keeps : (y : layer.Cmp-F GCmp GExpr GPrim GSum GUnary GPost GSet) → GoodCmp (cmp_step (map-Cmp Cmp Expr Prim Sum Unary Post Set (Form Cmp) (Form Expr) (Form Prim) (Form Sum) (Form Unary) (Form Post) (Form Set) cmp_form expr_form prim_form sum_form unary_form post_form set_form (map-Cmp GCmp GExpr GPrim GSum GUnary GPost GSet Cmp Expr Prim Sum Unary Post Set (λ x. x.0) (λ x. x.0) (λ x. x.0) (λ x. x.0) (λ x. x.0) (λ x. x.0) (λ x. x.0) y)))
+  cmp_keeps : (y : layer.Cmp-F GCmp GExpr GPrim GSum GUnary GPost GSet) → GoodCmp (cmp_step (map-Cmp Cmp Expr Primary Sum Unary Post Set (Form Cmp) (Form Expr) (Form Primary) (Form Sum) (Form Unary) (Form Post) (Form Set) cmp_form expr_form prim_form sum_form unary_form post_form set_form (map-Cmp GCmp GExpr GPrim GSum GUnary GPost GSet Cmp Expr Primary Sum Unary Post Set (λ x. x.0) (λ x. x.0) (λ x. x.0) (λ x. x.0) (λ x. x.0) (λ x. x.0) (λ x. x.0) y)))
   cmp_keeps (layer.Side p f) = side_good (sum_form f.0) f.1
   cmp_keeps (layer.Compared p f r g) = compared_good (sum_form f.0) r (sum_form g.0) f.1 g.1
 
-  cmp_case : (y : layer.Cmp-F GCmp GExpr GPrim GSum GUnary GPost GSet) → GoodCmp (cmp_form (roll-Cmp (map-Cmp GCmp GExpr GPrim GSum GUnary GPost GSet Cmp Expr Prim Sum Unary Post Set (λ x. x.0) (λ x. x.0) (λ x. x.0) (λ x. x.0) (λ x. x.0) (λ x. x.0) (λ x. x.0) y)))
-  cmp_case y = subst GoodCmp (sym (fold-roll-Cmp (Form Cmp) (Form Expr) (Form Prim) (Form Sum) (Form Unary) (Form Post) (Form Set) cmp_step expr_step prim_step sum_step unary_step post_step set_step (map-Cmp GCmp GExpr GPrim GSum GUnary GPost GSet Cmp Expr Prim Sum Unary Post Set (λ x. x.0) (λ x. x.0) (λ x. x.0) (λ x. x.0) (λ x. x.0) (λ x. x.0) (λ x. x.0) y))) (cmp_keeps y)
+  cmp_case : (y : layer.Cmp-F GCmp GExpr GPrim GSum GUnary GPost GSet) → GoodCmp (cmp_form (roll-Cmp (map-Cmp GCmp GExpr GPrim GSum GUnary GPost GSet Cmp Expr Primary Sum Unary Post Set (λ x. x.0) (λ x. x.0) (λ x. x.0) (λ x. x.0) (λ x. x.0) (λ x. x.0) (λ x. x.0) y)))
+  cmp_case y = subst GoodCmp (sym (fold-roll-Cmp (Form Cmp) (Form Expr) (Form Primary) (Form Sum) (Form Unary) (Form Post) (Form Set) cmp_step expr_step prim_step sum_step unary_step post_step set_step (map-Cmp GCmp GExpr GPrim GSum GUnary GPost GSet Cmp Expr Primary Sum Unary Post Set (λ x. x.0) (λ x. x.0) (λ x. x.0) (λ x. x.0) (λ x. x.0) (λ x. x.0) (λ x. x.0) y))) (cmp_keeps y)
 
-  expr_keeps : (y : layer.Expr-F GCmp GExpr GPrim GSum GUnary GPost GSet) → GoodExpr (expr_step (map-Expr Cmp Expr Prim Sum Unary Post Set (Form Cmp) (Form Expr) (Form Prim) (Form Sum) (Form Unary) (Form Post) (Form Set) cmp_form expr_form prim_form sum_form unary_form post_form set_form (map-Expr GCmp GExpr GPrim GSum GUnary GPost GSet Cmp Expr Prim Sum Unary Post Set (λ x. x.0) (λ x. x.0) (λ x. x.0) (λ x. x.0) (λ x. x.0) (λ x. x.0) (λ x. x.0) y)))
+  expr_keeps : (y : layer.Expr-F GCmp GExpr GPrim GSum GUnary GPost GSet) → GoodExpr (expr_step (map-Expr Cmp Expr Primary Sum Unary Post Set (Form Cmp) (Form Expr) (Form Primary) (Form Sum) (Form Unary) (Form Post) (Form Set) cmp_form expr_form prim_form sum_form unary_form post_form set_form (map-Expr GCmp GExpr GPrim GSum GUnary GPost GSet Cmp Expr Primary Sum Unary Post Set (λ x. x.0) (λ x. x.0) (λ x. x.0) (λ x. x.0) (λ x. x.0) (λ x. x.0) (λ x. x.0) y)))
   expr_keeps (layer.Single p f) = single_good (cmp_form f.0) f.1
   expr_keeps (layer.All p f g fs) = all_good (cmp_form f.0) (cmp_form g.0) (map cmp_form (map (λ x. x.0) fs)) f.1 g.1 (each_cmp fs)
   expr_keeps (layer.Any p f g fs) = any_good (cmp_form f.0) (cmp_form g.0) (map cmp_form (map (λ x. x.0) fs)) f.1 g.1 (each_cmp fs)
 
-  expr_case : (y : layer.Expr-F GCmp GExpr GPrim GSum GUnary GPost GSet) → GoodExpr (expr_form (roll-Expr (map-Expr GCmp GExpr GPrim GSum GUnary GPost GSet Cmp Expr Prim Sum Unary Post Set (λ x. x.0) (λ x. x.0) (λ x. x.0) (λ x. x.0) (λ x. x.0) (λ x. x.0) (λ x. x.0) y)))
-  expr_case y = subst GoodExpr (sym (fold-roll-Expr (Form Cmp) (Form Expr) (Form Prim) (Form Sum) (Form Unary) (Form Post) (Form Set) cmp_step expr_step prim_step sum_step unary_step post_step set_step (map-Expr GCmp GExpr GPrim GSum GUnary GPost GSet Cmp Expr Prim Sum Unary Post Set (λ x. x.0) (λ x. x.0) (λ x. x.0) (λ x. x.0) (λ x. x.0) (λ x. x.0) (λ x. x.0) y))) (expr_keeps y)
+  expr_case : (y : layer.Expr-F GCmp GExpr GPrim GSum GUnary GPost GSet) → GoodExpr (expr_form (roll-Expr (map-Expr GCmp GExpr GPrim GSum GUnary GPost GSet Cmp Expr Primary Sum Unary Post Set (λ x. x.0) (λ x. x.0) (λ x. x.0) (λ x. x.0) (λ x. x.0) (λ x. x.0) (λ x. x.0) y)))
+  expr_case y = subst GoodExpr (sym (fold-roll-Expr (Form Cmp) (Form Expr) (Form Primary) (Form Sum) (Form Unary) (Form Post) (Form Set) cmp_step expr_step prim_step sum_step unary_step post_step set_step (map-Expr GCmp GExpr GPrim GSum GUnary GPost GSet Cmp Expr Primary Sum Unary Post Set (λ x. x.0) (λ x. x.0) (λ x. x.0) (λ x. x.0) (λ x. x.0) (λ x. x.0) (λ x. x.0) y))) (expr_keeps y)
 
-  prim_keeps : (y : layer.Prim-F GCmp GExpr GPrim GSum GUnary GPost GSet) → GoodPrim (prim_step (map-Prim Cmp Expr Prim Sum Unary Post Set (Form Cmp) (Form Expr) (Form Prim) (Form Sum) (Form Unary) (Form Post) (Form Set) cmp_form expr_form prim_form sum_form unary_form post_form set_form (map-Prim GCmp GExpr GPrim GSum GUnary GPost GSet Cmp Expr Prim Sum Unary Post Set (λ x. x.0) (λ x. x.0) (λ x. x.0) (λ x. x.0) (λ x. x.0) (λ x. x.0) (λ x. x.0) y)))
+  prim_keeps : (y : layer.Primary-F GCmp GExpr GPrim GSum GUnary GPost GSet) → GoodPrim (prim_step (map-Primary Cmp Expr Primary Sum Unary Post Set (Form Cmp) (Form Expr) (Form Primary) (Form Sum) (Form Unary) (Form Post) (Form Set) cmp_form expr_form prim_form sum_form unary_form post_form set_form (map-Primary GCmp GExpr GPrim GSum GUnary GPost GSet Cmp Expr Primary Sum Unary Post Set (λ x. x.0) (λ x. x.0) (λ x. x.0) (λ x. x.0) (λ x. x.0) (λ x. x.0) (λ x. x.0) y)))
   prim_keeps (layer.Number p n) = prim_number n
   prim_keeps (layer.True p) = record { taken = λ st k ts ok. refl; starts = λ ts. refl }
   prim_keeps (layer.False p) = record { taken = λ st k ts ok. refl; starts = λ ts. refl }
@@ -666,35 +666,35 @@ module _ (at : Places) (nowhere : at [] ≡ place_of []) where
   prim_keeps (layer.SomeOf p e) = prim_some (expr_form e.0) e.1
   prim_keeps (layer.Group p e) = prim_group (expr_form e.0) e.1
 
-  prim_case : (y : layer.Prim-F GCmp GExpr GPrim GSum GUnary GPost GSet) → GoodPrim (prim_form (roll-Prim (map-Prim GCmp GExpr GPrim GSum GUnary GPost GSet Cmp Expr Prim Sum Unary Post Set (λ x. x.0) (λ x. x.0) (λ x. x.0) (λ x. x.0) (λ x. x.0) (λ x. x.0) (λ x. x.0) y)))
-  prim_case y = subst GoodPrim (sym (fold-roll-Prim (Form Cmp) (Form Expr) (Form Prim) (Form Sum) (Form Unary) (Form Post) (Form Set) cmp_step expr_step prim_step sum_step unary_step post_step set_step (map-Prim GCmp GExpr GPrim GSum GUnary GPost GSet Cmp Expr Prim Sum Unary Post Set (λ x. x.0) (λ x. x.0) (λ x. x.0) (λ x. x.0) (λ x. x.0) (λ x. x.0) (λ x. x.0) y))) (prim_keeps y)
+  prim_case : (y : layer.Primary-F GCmp GExpr GPrim GSum GUnary GPost GSet) → GoodPrim (prim_form (roll-Primary (map-Primary GCmp GExpr GPrim GSum GUnary GPost GSet Cmp Expr Primary Sum Unary Post Set (λ x. x.0) (λ x. x.0) (λ x. x.0) (λ x. x.0) (λ x. x.0) (λ x. x.0) (λ x. x.0) y)))
+  prim_case y = subst GoodPrim (sym (fold-roll-Primary (Form Cmp) (Form Expr) (Form Primary) (Form Sum) (Form Unary) (Form Post) (Form Set) cmp_step expr_step prim_step sum_step unary_step post_step set_step (map-Primary GCmp GExpr GPrim GSum GUnary GPost GSet Cmp Expr Primary Sum Unary Post Set (λ x. x.0) (λ x. x.0) (λ x. x.0) (λ x. x.0) (λ x. x.0) (λ x. x.0) (λ x. x.0) y))) (prim_keeps y)
 
-  sum_keeps : (y : layer.Sum-F GCmp GExpr GPrim GSum GUnary GPost GSet) → GoodSum (sum_step (map-Sum Cmp Expr Prim Sum Unary Post Set (Form Cmp) (Form Expr) (Form Prim) (Form Sum) (Form Unary) (Form Post) (Form Set) cmp_form expr_form prim_form sum_form unary_form post_form set_form (map-Sum GCmp GExpr GPrim GSum GUnary GPost GSet Cmp Expr Prim Sum Unary Post Set (λ x. x.0) (λ x. x.0) (λ x. x.0) (λ x. x.0) (λ x. x.0) (λ x. x.0) (λ x. x.0) y)))
+  sum_keeps : (y : layer.Sum-F GCmp GExpr GPrim GSum GUnary GPost GSet) → GoodSum (sum_step (map-Sum Cmp Expr Primary Sum Unary Post Set (Form Cmp) (Form Expr) (Form Primary) (Form Sum) (Form Unary) (Form Post) (Form Set) cmp_form expr_form prim_form sum_form unary_form post_form set_form (map-Sum GCmp GExpr GPrim GSum GUnary GPost GSet Cmp Expr Primary Sum Unary Post Set (λ x. x.0) (λ x. x.0) (λ x. x.0) (λ x. x.0) (λ x. x.0) (λ x. x.0) (λ x. x.0) y)))
   sum_keeps (layer.Term p f) = term_good (unary_form f.0) f.1
   sum_keeps (layer.Plus p f n) = plus_good (unary_form f.0) n f.1
   sum_keeps (layer.Minus p f n) = minus_good (unary_form f.0) n f.1
 
-  sum_case : (y : layer.Sum-F GCmp GExpr GPrim GSum GUnary GPost GSet) → GoodSum (sum_form (roll-Sum (map-Sum GCmp GExpr GPrim GSum GUnary GPost GSet Cmp Expr Prim Sum Unary Post Set (λ x. x.0) (λ x. x.0) (λ x. x.0) (λ x. x.0) (λ x. x.0) (λ x. x.0) (λ x. x.0) y)))
-  sum_case y = subst GoodSum (sym (fold-roll-Sum (Form Cmp) (Form Expr) (Form Prim) (Form Sum) (Form Unary) (Form Post) (Form Set) cmp_step expr_step prim_step sum_step unary_step post_step set_step (map-Sum GCmp GExpr GPrim GSum GUnary GPost GSet Cmp Expr Prim Sum Unary Post Set (λ x. x.0) (λ x. x.0) (λ x. x.0) (λ x. x.0) (λ x. x.0) (λ x. x.0) (λ x. x.0) y))) (sum_keeps y)
+  sum_case : (y : layer.Sum-F GCmp GExpr GPrim GSum GUnary GPost GSet) → GoodSum (sum_form (roll-Sum (map-Sum GCmp GExpr GPrim GSum GUnary GPost GSet Cmp Expr Primary Sum Unary Post Set (λ x. x.0) (λ x. x.0) (λ x. x.0) (λ x. x.0) (λ x. x.0) (λ x. x.0) (λ x. x.0) y)))
+  sum_case y = subst GoodSum (sym (fold-roll-Sum (Form Cmp) (Form Expr) (Form Primary) (Form Sum) (Form Unary) (Form Post) (Form Set) cmp_step expr_step prim_step sum_step unary_step post_step set_step (map-Sum GCmp GExpr GPrim GSum GUnary GPost GSet Cmp Expr Primary Sum Unary Post Set (λ x. x.0) (λ x. x.0) (λ x. x.0) (λ x. x.0) (λ x. x.0) (λ x. x.0) (λ x. x.0) y))) (sum_keeps y)
 
-  unary_keeps : (y : layer.Unary-F GCmp GExpr GPrim GSum GUnary GPost GSet) → GoodUnary (unary_step (map-Unary Cmp Expr Prim Sum Unary Post Set (Form Cmp) (Form Expr) (Form Prim) (Form Sum) (Form Unary) (Form Post) (Form Set) cmp_form expr_form prim_form sum_form unary_form post_form set_form (map-Unary GCmp GExpr GPrim GSum GUnary GPost GSet Cmp Expr Prim Sum Unary Post Set (λ x. x.0) (λ x. x.0) (λ x. x.0) (λ x. x.0) (λ x. x.0) (λ x. x.0) (λ x. x.0) y)))
+  unary_keeps : (y : layer.Unary-F GCmp GExpr GPrim GSum GUnary GPost GSet) → GoodUnary (unary_step (map-Unary Cmp Expr Primary Sum Unary Post Set (Form Cmp) (Form Expr) (Form Primary) (Form Sum) (Form Unary) (Form Post) (Form Set) cmp_form expr_form prim_form sum_form unary_form post_form set_form (map-Unary GCmp GExpr GPrim GSum GUnary GPost GSet Cmp Expr Primary Sum Unary Post Set (λ x. x.0) (λ x. x.0) (λ x. x.0) (λ x. x.0) (λ x. x.0) (λ x. x.0) (λ x. x.0) y)))
   unary_keeps (layer.Bare p f) = bare_good (post_form f.0) f.1
   unary_keeps (layer.Not p f) = not_good (post_form f.0) f.1
 
-  unary_case : (y : layer.Unary-F GCmp GExpr GPrim GSum GUnary GPost GSet) → GoodUnary (unary_form (roll-Unary (map-Unary GCmp GExpr GPrim GSum GUnary GPost GSet Cmp Expr Prim Sum Unary Post Set (λ x. x.0) (λ x. x.0) (λ x. x.0) (λ x. x.0) (λ x. x.0) (λ x. x.0) (λ x. x.0) y)))
-  unary_case y = subst GoodUnary (sym (fold-roll-Unary (Form Cmp) (Form Expr) (Form Prim) (Form Sum) (Form Unary) (Form Post) (Form Set) cmp_step expr_step prim_step sum_step unary_step post_step set_step (map-Unary GCmp GExpr GPrim GSum GUnary GPost GSet Cmp Expr Prim Sum Unary Post Set (λ x. x.0) (λ x. x.0) (λ x. x.0) (λ x. x.0) (λ x. x.0) (λ x. x.0) (λ x. x.0) y))) (unary_keeps y)
+  unary_case : (y : layer.Unary-F GCmp GExpr GPrim GSum GUnary GPost GSet) → GoodUnary (unary_form (roll-Unary (map-Unary GCmp GExpr GPrim GSum GUnary GPost GSet Cmp Expr Primary Sum Unary Post Set (λ x. x.0) (λ x. x.0) (λ x. x.0) (λ x. x.0) (λ x. x.0) (λ x. x.0) (λ x. x.0) y)))
+  unary_case y = subst GoodUnary (sym (fold-roll-Unary (Form Cmp) (Form Expr) (Form Primary) (Form Sum) (Form Unary) (Form Post) (Form Set) cmp_step expr_step prim_step sum_step unary_step post_step set_step (map-Unary GCmp GExpr GPrim GSum GUnary GPost GSet Cmp Expr Primary Sum Unary Post Set (λ x. x.0) (λ x. x.0) (λ x. x.0) (λ x. x.0) (λ x. x.0) (λ x. x.0) (λ x. x.0) y))) (unary_keeps y)
 
-  post_keeps : (y : layer.Post-F GCmp GExpr GPrim GSum GUnary GPost GSet) → GoodPost (post_step (map-Post Cmp Expr Prim Sum Unary Post Set (Form Cmp) (Form Expr) (Form Prim) (Form Sum) (Form Unary) (Form Post) (Form Set) cmp_form expr_form prim_form sum_form unary_form post_form set_form (map-Post GCmp GExpr GPrim GSum GUnary GPost GSet Cmp Expr Prim Sum Unary Post Set (λ x. x.0) (λ x. x.0) (λ x. x.0) (λ x. x.0) (λ x. x.0) (λ x. x.0) (λ x. x.0) y)))
+  post_keeps : (y : layer.Post-F GCmp GExpr GPrim GSum GUnary GPost GSet) → GoodPost (post_step (map-Post Cmp Expr Primary Sum Unary Post Set (Form Cmp) (Form Expr) (Form Primary) (Form Sum) (Form Unary) (Form Post) (Form Set) cmp_form expr_form prim_form sum_form unary_form post_form set_form (map-Post GCmp GExpr GPrim GSum GUnary GPost GSet Cmp Expr Primary Sum Unary Post Set (λ x. x.0) (λ x. x.0) (λ x. x.0) (λ x. x.0) (λ x. x.0) (λ x. x.0) (λ x. x.0) y)))
   post_keeps y = post_good (prim_form y.prim.0) y.fields (map set_form (map (λ x. x.0) y.sets)) y.prim.1 (each_set y.sets)
 
-  post_case : (y : layer.Post-F GCmp GExpr GPrim GSum GUnary GPost GSet) → GoodPost (post_form (roll-Post (map-Post GCmp GExpr GPrim GSum GUnary GPost GSet Cmp Expr Prim Sum Unary Post Set (λ x. x.0) (λ x. x.0) (λ x. x.0) (λ x. x.0) (λ x. x.0) (λ x. x.0) (λ x. x.0) y)))
-  post_case y = subst GoodPost (sym (fold-roll-Post (Form Cmp) (Form Expr) (Form Prim) (Form Sum) (Form Unary) (Form Post) (Form Set) cmp_step expr_step prim_step sum_step unary_step post_step set_step (map-Post GCmp GExpr GPrim GSum GUnary GPost GSet Cmp Expr Prim Sum Unary Post Set (λ x. x.0) (λ x. x.0) (λ x. x.0) (λ x. x.0) (λ x. x.0) (λ x. x.0) (λ x. x.0) y))) (post_keeps y)
+  post_case : (y : layer.Post-F GCmp GExpr GPrim GSum GUnary GPost GSet) → GoodPost (post_form (roll-Post (map-Post GCmp GExpr GPrim GSum GUnary GPost GSet Cmp Expr Primary Sum Unary Post Set (λ x. x.0) (λ x. x.0) (λ x. x.0) (λ x. x.0) (λ x. x.0) (λ x. x.0) (λ x. x.0) y)))
+  post_case y = subst GoodPost (sym (fold-roll-Post (Form Cmp) (Form Expr) (Form Primary) (Form Sum) (Form Unary) (Form Post) (Form Set) cmp_step expr_step prim_step sum_step unary_step post_step set_step (map-Post GCmp GExpr GPrim GSum GUnary GPost GSet Cmp Expr Primary Sum Unary Post Set (λ x. x.0) (λ x. x.0) (λ x. x.0) (λ x. x.0) (λ x. x.0) (λ x. x.0) (λ x. x.0) y))) (post_keeps y)
 
-  set_keeps : (y : layer.Set-F GCmp GExpr GPrim GSum GUnary GPost GSet) → GoodSet (set_step (map-Set Cmp Expr Prim Sum Unary Post Set (Form Cmp) (Form Expr) (Form Prim) (Form Sum) (Form Unary) (Form Post) (Form Set) cmp_form expr_form prim_form sum_form unary_form post_form set_form (map-Set GCmp GExpr GPrim GSum GUnary GPost GSet Cmp Expr Prim Sum Unary Post Set (λ x. x.0) (λ x. x.0) (λ x. x.0) (λ x. x.0) (λ x. x.0) (λ x. x.0) (λ x. x.0) y)))
+  set_keeps : (y : layer.Set-F GCmp GExpr GPrim GSum GUnary GPost GSet) → GoodSet (set_step (map-Set Cmp Expr Primary Sum Unary Post Set (Form Cmp) (Form Expr) (Form Primary) (Form Sum) (Form Unary) (Form Post) (Form Set) cmp_form expr_form prim_form sum_form unary_form post_form set_form (map-Set GCmp GExpr GPrim GSum GUnary GPost GSet Cmp Expr Primary Sum Unary Post Set (λ x. x.0) (λ x. x.0) (λ x. x.0) (λ x. x.0) (λ x. x.0) (λ x. x.0) (λ x. x.0) y)))
   set_keeps y = set_good y.field (expr_form y.value.0) y.value.1
 
-  set_case : (y : layer.Set-F GCmp GExpr GPrim GSum GUnary GPost GSet) → GoodSet (set_form (roll-Set (map-Set GCmp GExpr GPrim GSum GUnary GPost GSet Cmp Expr Prim Sum Unary Post Set (λ x. x.0) (λ x. x.0) (λ x. x.0) (λ x. x.0) (λ x. x.0) (λ x. x.0) (λ x. x.0) y)))
-  set_case y = subst GoodSet (sym (fold-roll-Set (Form Cmp) (Form Expr) (Form Prim) (Form Sum) (Form Unary) (Form Post) (Form Set) cmp_step expr_step prim_step sum_step unary_step post_step set_step (map-Set GCmp GExpr GPrim GSum GUnary GPost GSet Cmp Expr Prim Sum Unary Post Set (λ x. x.0) (λ x. x.0) (λ x. x.0) (λ x. x.0) (λ x. x.0) (λ x. x.0) (λ x. x.0) y))) (set_keeps y)
+  set_case : (y : layer.Set-F GCmp GExpr GPrim GSum GUnary GPost GSet) → GoodSet (set_form (roll-Set (map-Set GCmp GExpr GPrim GSum GUnary GPost GSet Cmp Expr Primary Sum Unary Post Set (λ x. x.0) (λ x. x.0) (λ x. x.0) (λ x. x.0) (λ x. x.0) (λ x. x.0) (λ x. x.0) y)))
+  set_case y = subst GoodSet (sym (fold-roll-Set (Form Cmp) (Form Expr) (Form Primary) (Form Sum) (Form Unary) (Form Post) (Form Set) cmp_step expr_step prim_step sum_step unary_step post_step set_step (map-Set GCmp GExpr GPrim GSum GUnary GPost GSet Cmp Expr Primary Sum Unary Post Set (λ x. x.0) (λ x. x.0) (λ x. x.0) (λ x. x.0) (λ x. x.0) (λ x. x.0) (λ x. x.0) y))) (set_keeps y)
 
   pub expr_good : (e : Expr) → GoodExpr (expr_form e)
-  expr_good = ind-Expr (λ x. GoodCmp (cmp_form x)) (λ x. GoodExpr (expr_form x)) (λ x. GoodPrim (prim_form x)) (λ x. GoodSum (sum_form x)) (λ x. GoodUnary (unary_form x)) (λ x. GoodPost (post_form x)) (λ x. GoodSet (set_form x)) (λ x y is. subst (λ z. GoodCmp (cmp_form (roll-Cmp z))) is (cmp_case y)) (λ x y is. subst (λ z. GoodExpr (expr_form (roll-Expr z))) is (expr_case y)) (λ x y is. subst (λ z. GoodPrim (prim_form (roll-Prim z))) is (prim_case y)) (λ x y is. subst (λ z. GoodSum (sum_form (roll-Sum z))) is (sum_case y)) (λ x y is. subst (λ z. GoodUnary (unary_form (roll-Unary z))) is (unary_case y)) (λ x y is. subst (λ z. GoodPost (post_form (roll-Post z))) is (post_case y)) (λ x y is. subst (λ z. GoodSet (set_form (roll-Set z))) is (set_case y))
+  expr_good = ind-Expr (λ x. GoodCmp (cmp_form x)) (λ x. GoodExpr (expr_form x)) (λ x. GoodPrim (prim_form x)) (λ x. GoodSum (sum_form x)) (λ x. GoodUnary (unary_form x)) (λ x. GoodPost (post_form x)) (λ x. GoodSet (set_form x)) (λ x y is. subst (λ z. GoodCmp (cmp_form (roll-Cmp z))) is (cmp_case y)) (λ x y is. subst (λ z. GoodExpr (expr_form (roll-Expr z))) is (expr_case y)) (λ x y is. subst (λ z. GoodPrim (prim_form (roll-Primary z))) is (prim_case y)) (λ x y is. subst (λ z. GoodSum (sum_form (roll-Sum z))) is (sum_case y)) (λ x y is. subst (λ z. GoodUnary (unary_form (roll-Unary z))) is (unary_case y)) (λ x y is. subst (λ z. GoodPost (post_form (roll-Post z))) is (post_case y)) (λ x y is. subst (λ z. GoodSet (set_form (roll-Set z))) is (set_case y))

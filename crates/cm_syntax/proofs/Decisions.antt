@@ -3,7 +3,7 @@ use Rattle.std.proofs.Common.{Bool, sym, if◌then◌else◌, ◌≡◌, ℕ, tr
 use Rattle.cm_model.specs.declared.place.Place.{Place}
 use Rattle.cm_tokens.specs.declared.token.Token.{Token}
 use Rattle.cm_tokens.specs.declared.token.Token.TheVariants as token
-use Rattle.cm_syntax.specs.declared.tree.Prim.{Prim}
+use Rattle.cm_syntax.specs.declared.tree.Primary.{Primary}
 use Rattle.cm_syntax.specs.declared.fault.SyntaxFault.{SyntaxFault}
 use Rattle.cm_syntax.specs.Text.{place_of, too_deep, open_after}
 use Rattle.cm_syntax.specs.Machine as m

@@ -11,7 +11,7 @@ use Rattle.cm_syntax.specs.declared.tree.Part.{Part}
 use Rattle.cm_syntax.specs.declared.tree.«Type».{«Type» as TypeTree}
 use Rattle.cm_syntax.specs.declared.tree.Block.{Block}
 use Rattle.cm_syntax.specs.declared.tree.Expr.{Expr}
-use Rattle.cm_syntax.specs.declared.tree.Prim.{Prim}
+use Rattle.cm_syntax.specs.declared.tree.Primary.{Primary}
 use Rattle.cm_syntax.specs.declared.fault.SyntaxFault.{SyntaxFault}
 use Rattle.cm_syntax.specs.Text.{place_of}
 use Rattle.cm_syntax.specs.Machine.{Exactly, AName, ANum, AType, APart, MoreParts, Params, Internals, MoreNames, Key, Where, ADecl, Decls, ABlock, Text, Stack, Values, reading, Ahead, head, Gives, Stops, Passes, Halts, state_of, tree_of}

@@ -16,8 +16,8 @@ use Rattle.cm_syntax.specs.declared.tree.Unary.{Unary}
 use Rattle.cm_syntax.specs.declared.tree.Unary.TheVariants.{Bare, Not}
 use Rattle.cm_syntax.specs.declared.tree.Post.{Post}
 use Rattle.cm_syntax.specs.declared.tree.Set.{Set}
-use Rattle.cm_syntax.specs.declared.tree.Prim.{Prim}
-use Rattle.cm_syntax.specs.declared.tree.Prim.TheVariants as prim
+use Rattle.cm_syntax.specs.declared.tree.Primary.{Primary}
+use Rattle.cm_syntax.specs.declared.tree.Primary.TheVariants as prim
 use Rattle.cm_syntax.specs.declared.tails.AfterName.{AfterName}
 use Rattle.cm_syntax.specs.declared.tails.AfterName.TheVariants as after
 use Rattle.cm_syntax.specs.declared.tails.Offset.{Offset}
@@ -416,7 +416,7 @@ pub ruleset steps_with = (gives_with, halts_with, stops_with_0, stops_with_1, st
 open_post : (b : Ahead) (p : Place) (st : Stack) (k : Values (APost ∷ st) → Tree) → place_of b.left ≡ p → reading b.opened (APost ∷ st) k b.left ≡ reading b.opened (APrim ∷ Fields ∷ With ∷ st) (λ v. k (post_of p v.0 v.1.0 v.1.1.0, v.1.1.1)) b.left
 open_post b p st k q = same_read b.opened (APrim ∷ Fields ∷ With ∷ st) (APost ∷ st) (λ v. (post_of (place_of b.left) v.0 v.1.0 v.1.1.0, v.1.1.1)) k b.left (refl) ∙ ap (λ p. reading b.opened (APrim ∷ Fields ∷ With ∷ st) (λ v. k (post_of p v.0 v.1.0 v.1.1.0, v.1.1.1)) b.left) q
 
-pub gives_post : (b0 b1 b2 b3 : Ahead) (p : Place) (x0 : Prim) (x1 : List (List ℕ)) (x2 : List Set) → place_of b0.left ≡ p → Gives APrim b0 x0 b1 → Gives Fields b1 x1 b2 → Gives With b2 x2 b3 → Gives APost b0 (post_of p x0 x1 x2) b3
+pub gives_post : (b0 b1 b2 b3 : Ahead) (p : Place) (x0 : Primary) (x1 : List (List ℕ)) (x2 : List Set) → place_of b0.left ≡ p → Gives APrim b0 x0 b1 → Gives Fields b1 x1 b2 → Gives With b2 x2 b3 → Gives APost b0 (post_of p x0 x1 x2) b3
 unfolding Gives
 gives_post b0 b1 b2 b3 p x0 x1 x2 q g0 g1 g2 = λ st k.
     open_post b0 p st k q
@@ -431,7 +431,7 @@ stops_post_0 b0 p e q z = stops_by APost APrim b0 b0 e (λ st k. (
   open_post b0 p st k q,
 )) z
 
-pub stops_post_1 : (b0 b1 : Ahead) (p : Place) (x0 : Prim) (e : SyntaxFault) → place_of b0.left ≡ p → Gives APrim b0 x0 b1 → Stops Fields b1 e → Stops APost b0 e
+pub stops_post_1 : (b0 b1 : Ahead) (p : Place) (x0 : Primary) (e : SyntaxFault) → place_of b0.left ≡ p → Gives APrim b0 x0 b1 → Stops Fields b1 e → Stops APost b0 e
 unfolding Gives
 stops_post_1 b0 b1 p x0 e q g0 z = stops_by APost Fields b0 b1 e (λ st k. (
   (With ∷ st),
@@ -440,7 +440,7 @@ stops_post_1 b0 b1 p x0 e q g0 z = stops_by APost Fields b0 b1 e (λ st k. (
       ∙ g0 (Fields ∷ With ∷ st) (λ v. k (post_of p v.0 v.1.0 v.1.1.0, v.1.1.1)),
 )) z
 
-pub stops_post_2 : (b0 b1 b2 : Ahead) (p : Place) (x0 : Prim) (x1 : List (List ℕ)) (e : SyntaxFault) → place_of b0.left ≡ p → Gives APrim b0 x0 b1 → Gives Fields b1 x1 b2 → Stops With b2 e → Stops APost b0 e
+pub stops_post_2 : (b0 b1 b2 : Ahead) (p : Place) (x0 : Primary) (x1 : List (List ℕ)) (e : SyntaxFault) → place_of b0.left ≡ p → Gives APrim b0 x0 b1 → Gives Fields b1 x1 b2 → Stops With b2 e → Stops APost b0 e
 unfolding Gives
 stops_post_2 b0 b1 b2 p x0 x1 e q g0 g1 z = stops_by APost With b0 b2 e (λ st k. (
   (st),

@@ -3,7 +3,7 @@ use Rattle.std.proofs.Common.{◌≡◌, true, [], ◌∷◌, Option, Some, None
 use Rattle.cm_model.specs.declared.place.Place.{Place}
 use Rattle.cm_tokens.specs.declared.token.Token.{Token}
 use Rattle.cm_tokens.specs.declared.token.Token.TheVariants as token
-use Rattle.cm_syntax.specs.declared.tree.Prim.{Prim}
+use Rattle.cm_syntax.specs.declared.tree.Primary.{Primary}
 use Rattle.cm_syntax.specs.declared.tails.AfterName.TheVariants as after
 use Rattle.cm_syntax.specs.declared.tails.Offset.TheVariants as offset
 use Rattle.cm_syntax.specs.declared.tails.RightSide.TheVariants as right

@@ -20,7 +20,7 @@ use Rattle.cm_syntax.specs.declared.tree.Sum.{Sum}
 use Rattle.cm_syntax.specs.declared.tree.Sum.TheVariants as sum
 use Rattle.cm_syntax.specs.declared.tree.Unary.{Unary}
 use Rattle.cm_syntax.specs.declared.tree.Unary.TheVariants as unary
-use Rattle.cm_syntax.specs.declared.tree.Prim.TheVariants as prim
+use Rattle.cm_syntax.specs.declared.tree.Primary.TheVariants as prim
 use Rattle.cm_syntax.specs.declared.tails.AfterName.{AfterName}
 use Rattle.cm_syntax.specs.declared.tails.AfterName.TheVariants as after
 use Rattle.cm_syntax.specs.declared.tails.Offset.{Offset}

@@ -9,7 +9,7 @@ use Rattle.cm_syntax.specs.declared.tree.Block.{Block}
 use Rattle.cm_syntax.specs.declared.tree.Stmt.{Stmt}
 use Rattle.cm_syntax.specs.declared.tree.Stmt.TheVariants as stmt
 use Rattle.cm_syntax.specs.declared.tree.Expr.{Expr}
-use Rattle.cm_syntax.specs.declared.tree.Prim.{Prim}
+use Rattle.cm_syntax.specs.declared.tree.Primary.{Primary}
 use Rattle.cm_syntax.specs.declared.fault.SyntaxFault.{SyntaxFault}
 use Rattle.cm_syntax.specs.Text.{place_of}
 use Rattle.cm_syntax.specs.Machine as m

@@ -9,7 +9,7 @@ use Rattle.cm_syntax.specs.declared.tree.Num.TheVariants.{Digits, Negative}
 use Rattle.cm_syntax.specs.declared.tree.Part.{Part}
 use Rattle.cm_syntax.specs.declared.tree.«Type».{«Type» as TypeTree}
 use Rattle.cm_syntax.specs.declared.tree.«Type».TheVariants as type
-use Rattle.cm_syntax.specs.declared.tree.Prim.{Prim}
+use Rattle.cm_syntax.specs.declared.tree.Primary.{Primary}
 use Rattle.cm_syntax.specs.declared.fault.SyntaxFault.{SyntaxFault}
 use Rattle.cm_syntax.specs.Text.{place_of}
 use Rattle.cm_syntax.specs.Machine as m

@@ -28,8 +28,8 @@ use Rattle.cm_syntax.specs.declared.tree.Unary.{Unary}
 use Rattle.cm_syntax.specs.declared.tree.Unary.TheVariants.{Bare, Not}
 use Rattle.cm_syntax.specs.declared.tree.Post.{Post}
 use Rattle.cm_syntax.specs.declared.tree.Set.{Set}
-use Rattle.cm_syntax.specs.declared.tree.Prim.{Prim}
-use Rattle.cm_syntax.specs.declared.tree.Prim.TheVariants as prim
+use Rattle.cm_syntax.specs.declared.tree.Primary.{Primary}
+use Rattle.cm_syntax.specs.declared.tree.Primary.TheVariants as prim
 use Rattle.cm_syntax.specs.declared.tails.AfterName.{AfterName}
 use Rattle.cm_syntax.specs.declared.tails.AfterName.TheVariants as after
 use Rattle.cm_syntax.specs.declared.tails.Offset.{Offset}
@@ -120,7 +120,7 @@ ValueOf Fields = List (List ℕ)
 ValueOf With = List Set
 ValueOf MoreSets = List Set
 ValueOf ASet = Set
-ValueOf APrim = Prim
+ValueOf APrim = Primary
 ValueOf BehindName = AfterName
 ValueOf Args = List Expr
 ValueOf MoreArgs = List Expr
@@ -218,7 +218,7 @@ more_names_at _ st next = mapped (λ v. ([], v)) next
 
 -- Expressions
 
-abbrev pub after_name : Place → List ℕ → AfterName → Prim
+abbrev pub after_name : Place → List ℕ → AfterName → Primary
 after_name a n after.Nothing = prim.Name a n
 after_name a n (after.Key e) = prim.Entry a n e
 after_name a n (after.Args es) = prim.Apply a n es

@@ -24,7 +24,7 @@ use Rattle.cm_syntax.specs.declared.tree.Expr.TheVariants.{Single, All, Any}
 use Rattle.cm_syntax.specs.declared.tree.Cmp.{Cmp}
 use Rattle.cm_syntax.specs.declared.tree.Cmp.TheVariants.{Side, Compared}
 use Rattle.cm_syntax.specs.declared.tree.Cmp.TheOpen as layer
-use Rattle.cm_syntax.specs.declared.tree.Cmp.TheFolds.{fold-Cmp, fold-Expr, fold-Prim, fold-Sum, fold-Unary, fold-Post, fold-Set}
+use Rattle.cm_syntax.specs.declared.tree.Cmp.TheFolds.{fold-Cmp, fold-Expr, fold-Primary, fold-Sum, fold-Unary, fold-Post, fold-Set}
 use Rattle.cm_syntax.specs.declared.tree.Relation.{Relation}
 use Rattle.cm_syntax.specs.declared.tree.Relation.TheVariants as relation
 use Rattle.cm_syntax.specs.declared.tree.Sum.{Sum}
@@ -34,8 +34,8 @@ use Rattle.cm_syntax.specs.declared.tree.Unary.TheVariants.{Bare, Not}
 use Rattle.cm_syntax.specs.declared.tree.Post.{Post}
 use Rattle.cm_syntax.specs.declared.tree.Set.{Set}
 use Rattle.cm_syntax.specs.declared.tree.Cmp.TheViews.{roll-Post, roll-Set}
-use Rattle.cm_syntax.specs.declared.tree.Prim.{Prim}
-use Rattle.cm_syntax.specs.declared.tree.Prim.TheVariants as prim
+use Rattle.cm_syntax.specs.declared.tree.Primary.{Primary}
+use Rattle.cm_syntax.specs.declared.tree.Primary.TheVariants as prim
 
 -- names, each with a token in front
 abbrev pub names_after : Token → List (List ℕ) → List Token → List Token
@@ -76,9 +76,9 @@ relation_token relation.AtLeast = token.AtLeast
 
 -- what a layer of expressions is made of once its parts are written
 abbrev pub Layer : ((C E P S U O W : Type 0) → Type 0) → Type 0
-Layer F = F (Form Cmp) (Form Expr) (Form Prim) (Form Sum) (Form Unary) (Form Post) (Form Set)
+Layer F = F (Form Cmp) (Form Expr) (Form Primary) (Form Sum) (Form Unary) (Form Post) (Form Set)
 
-abbrev pub prim_step : Layer layer.Prim-F → Form Prim
+abbrev pub prim_step : Layer layer.Primary-F → Form Primary
 prim_step (layer.Number p n) = node (λ at y. prim.Number at y.0) (part (num_form n) nothing)
 prim_step (layer.True p) = node (λ at y. prim.True at) (word token.True nothing)
 prim_step (layer.False p) = node (λ at y. prim.False at) (word token.False nothing)
@@ -93,7 +93,7 @@ prim_step (layer.Group p e) = node (λ at y. prim.Group at y.0) (word token.Open
 abbrev pub set_of : Place → List ℕ → Expr → Set
 set_of p n e = roll-Set (record { at = p; field = n; value = e })
 
-abbrev pub post_of : Place → Prim → List (List ℕ) → List Set → Post
+abbrev pub post_of : Place → Primary → List (List ℕ) → List Set → Post
 post_of p q ns ss = roll-Post (record { at = p; prim = q; fields = ns; sets = ss })
 
 abbrev pub set_step : Layer layer.Set-F → Form Set
@@ -126,25 +126,25 @@ expr_step (layer.All p f g fs) = node (λ at y. All at y.0 y.1.0 y.1.1.0) (part 
 expr_step (layer.Any p f g fs) = node (λ at y. Any at y.0 y.1.0 y.1.1.0) (part f (word token.Or (part g (part (each_after token.Or fs) nothing))))
 
 abbrev pub cmp_form : Cmp → Form Cmp
-cmp_form = fold-Cmp (Form Cmp) (Form Expr) (Form Prim) (Form Sum) (Form Unary) (Form Post) (Form Set) cmp_step expr_step prim_step sum_step unary_step post_step set_step
+cmp_form = fold-Cmp (Form Cmp) (Form Expr) (Form Primary) (Form Sum) (Form Unary) (Form Post) (Form Set) cmp_step expr_step prim_step sum_step unary_step post_step set_step
 
 abbrev pub expr_form : Expr → Form Expr
-expr_form = fold-Expr (Form Cmp) (Form Expr) (Form Prim) (Form Sum) (Form Unary) (Form Post) (Form Set) cmp_step expr_step prim_step sum_step unary_step post_step set_step
+expr_form = fold-Expr (Form Cmp) (Form Expr) (Form Primary) (Form Sum) (Form Unary) (Form Post) (Form Set) cmp_step expr_step prim_step sum_step unary_step post_step set_step
 
-abbrev pub prim_form : Prim → Form Prim
-prim_form = fold-Prim (Form Cmp) (Form Expr) (Form Prim) (Form Sum) (Form Unary) (Form Post) (Form Set) cmp_step expr_step prim_step sum_step unary_step post_step set_step
+abbrev pub prim_form : Primary → Form Primary
+prim_form = fold-Primary (Form Cmp) (Form Expr) (Form Primary) (Form Sum) (Form Unary) (Form Post) (Form Set) cmp_step expr_step prim_step sum_step unary_step post_step set_step
 
 abbrev pub sum_form : Sum → Form Sum
-sum_form = fold-Sum (Form Cmp) (Form Expr) (Form Prim) (Form Sum) (Form Unary) (Form Post) (Form Set) cmp_step expr_step prim_step sum_step unary_step post_step set_step
+sum_form = fold-Sum (Form Cmp) (Form Expr) (Form Primary) (Form Sum) (Form Unary) (Form Post) (Form Set) cmp_step expr_step prim_step sum_step unary_step post_step set_step
 
 abbrev pub unary_form : Unary → Form Unary
-unary_form = fold-Unary (Form Cmp) (Form Expr) (Form Prim) (Form Sum) (Form Unary) (Form Post) (Form Set) cmp_step expr_step prim_step sum_step unary_step post_step set_step
+unary_form = fold-Unary (Form Cmp) (Form Expr) (Form Primary) (Form Sum) (Form Unary) (Form Post) (Form Set) cmp_step expr_step prim_step sum_step unary_step post_step set_step
 
 abbrev pub post_form : Post → Form Post
-post_form = fold-Post (Form Cmp) (Form Expr) (Form Prim) (Form Sum) (Form Unary) (Form Post) (Form Set) cmp_step expr_step prim_step sum_step unary_step post_step set_step
+post_form = fold-Post (Form Cmp) (Form Expr) (Form Primary) (Form Sum) (Form Unary) (Form Post) (Form Set) cmp_step expr_step prim_step sum_step unary_step post_step set_step
 
 abbrev pub set_form : Set → Form Set
-set_form = fold-Set (Form Cmp) (Form Expr) (Form Prim) (Form Sum) (Form Unary) (Form Post) (Form Set) cmp_step expr_step prim_step sum_step unary_step post_step set_step
+set_form = fold-Set (Form Cmp) (Form Expr) (Form Primary) (Form Sum) (Form Unary) (Form Post) (Form Set) cmp_step expr_step prim_step sum_step unary_step post_step set_step
 
 -- Statements
 

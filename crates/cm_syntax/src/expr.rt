@@ -316,7 +316,7 @@ impl<'a> Reader<'a> {
     /// An expression without a sign between its parts.
     #[cycle(read_expr)]
     #[tactic(auto, using(crate::proofs::Decisions::stuck_a_prim))]
-    fn read_prim(&mut self) -> Result<tree::Prim, SyntaxFault>
+    fn read_prim(&mut self) -> Result<tree::Primary, SyntaxFault>
         ensures reads { Reads APrim (λ x. x) self.old self.new result }
         ensures shorter { IfOk result (λ x. length self.new.left < length self.old.left) }
     {
@@ -334,48 +334,48 @@ impl<'a> Reader<'a> {
     }
 
     #[tactic(auto, using(crate::proofs::ExprSteps::steps_number))]
-    fn read_prim_number(&mut self) -> Result<tree::Prim, SyntaxFault>
+    fn read_prim_number(&mut self) -> Result<tree::Primary, SyntaxFault>
         requires { starts_num (head self.old.left) ≡ true }
         ensures reads { Reads APrim (λ x. x) self.old self.new result }
         ensures shorter { IfOk result (λ x. length self.new.left < length self.old.left) }
     {
         let at = self.place();
         let value = self.read_num()?;
-        Ok(tree::Prim::Number { at, value })
+        Ok(tree::Primary::Number { at, value })
     }
 
     #[tactic(auto, using(crate::proofs::ExprSteps::steps_true))]
-    fn read_true(&mut self) -> Result<tree::Prim, SyntaxFault>
+    fn read_true(&mut self) -> Result<tree::Primary, SyntaxFault>
         requires { head self.old.left ≡ Some token.True }
         ensures reads { Reads APrim (λ x. x) self.old self.new result }
         ensures shorter { IfOk result (λ x. length self.new.left < length self.old.left) }
     {
         let at = self.pass()?;
-        Ok(tree::Prim::True { at })
+        Ok(tree::Primary::True { at })
     }
 
     #[tactic(auto, using(crate::proofs::ExprSteps::steps_false))]
-    fn read_false(&mut self) -> Result<tree::Prim, SyntaxFault>
+    fn read_false(&mut self) -> Result<tree::Primary, SyntaxFault>
         requires { head self.old.left ≡ Some token.False }
         ensures reads { Reads APrim (λ x. x) self.old self.new result }
         ensures shorter { IfOk result (λ x. length self.new.left < length self.old.left) }
     {
         let at = self.pass()?;
-        Ok(tree::Prim::False { at })
+        Ok(tree::Primary::False { at })
     }
 
     #[tactic(auto, using(crate::proofs::ExprSteps::steps_it))]
-    fn read_it(&mut self) -> Result<tree::Prim, SyntaxFault>
+    fn read_it(&mut self) -> Result<tree::Primary, SyntaxFault>
         requires { head self.old.left ≡ Some token.It }
         ensures reads { Reads APrim (λ x. x) self.old self.new result }
         ensures shorter { IfOk result (λ x. length self.new.left < length self.old.left) }
     {
         let at = self.pass()?;
-        Ok(tree::Prim::It { at })
+        Ok(tree::Primary::It { at })
     }
 
     #[tactic(auto, using(crate::proofs::ExprSteps::steps_none))]
-    fn read_none_of(&mut self) -> Result<tree::Prim, SyntaxFault>
+    fn read_none_of(&mut self) -> Result<tree::Primary, SyntaxFault>
         requires { head self.old.left ≡ Some token.Nothing }
         ensures reads { Reads APrim (λ x. x) self.old self.new result }
         ensures shorter { IfOk result (λ x. length self.new.left < length self.old.left) }
@@ -384,12 +384,12 @@ impl<'a> Reader<'a> {
         self.read_mark(Mark::OpenRound)?;
         let inner = self.read_type()?;
         self.read_mark(Mark::CloseRound)?;
-        Ok(tree::Prim::NoneOf { at, inner })
+        Ok(tree::Primary::NoneOf { at, inner })
     }
 
     #[cycle(read_expr)]
     #[tactic(auto, using(crate::proofs::ExprSteps::steps_some))]
-    fn read_some_of(&mut self) -> Result<tree::Prim, SyntaxFault>
+    fn read_some_of(&mut self) -> Result<tree::Primary, SyntaxFault>
         requires { head self.old.left ≡ Some token.Something }
         ensures reads { Reads APrim (λ x. x) self.old self.new result }
         ensures shorter { IfOk result (λ x. length self.new.left < length self.old.left) }
@@ -398,12 +398,12 @@ impl<'a> Reader<'a> {
         self.read_mark(Mark::OpenRound)?;
         let of = self.read_boxed()?;
         self.read_mark(Mark::CloseRound)?;
-        Ok(tree::Prim::SomeOf { at, of })
+        Ok(tree::Primary::SomeOf { at, of })
     }
 
     #[cycle(read_expr)]
     #[tactic(auto, using(crate::proofs::ExprSteps::steps_group))]
-    fn read_group(&mut self) -> Result<tree::Prim, SyntaxFault>
+    fn read_group(&mut self) -> Result<tree::Primary, SyntaxFault>
         requires { head self.old.left ≡ Some token.OpenRound }
         ensures reads { Reads APrim (λ x. x) self.old self.new result }
         ensures shorter { IfOk result (λ x. length self.new.left < length self.old.left) }
@@ -411,12 +411,12 @@ impl<'a> Reader<'a> {
         let at = self.pass()?;
         let inner = self.read_boxed()?;
         self.read_mark(Mark::CloseRound)?;
-        Ok(tree::Prim::Group { at, inner })
+        Ok(tree::Primary::Group { at, inner })
     }
 
     #[cycle(read_expr)]
     #[tactic(auto, using(crate::proofs::ExprSteps::steps_name))]
-    fn read_named(&mut self) -> Result<tree::Prim, SyntaxFault>
+    fn read_named(&mut self) -> Result<tree::Primary, SyntaxFault>
         requires { starts_name (head self.old.left) ≡ true }
         ensures reads { Reads APrim (λ x. x) self.old self.new result }
         ensures shorter { IfOk result (λ x. length self.new.left < length self.old.left) }
@@ -578,12 +578,12 @@ fn sum_of(at: Place, left: Unary, offset: Offset) -> Sum
     }
 }
 
-fn after_name(at: Place, name: Name, after: AfterName) -> tree::Prim
+fn after_name(at: Place, name: Name, after: AfterName) -> tree::Primary
     ensures { result ≡ Machine.after_name at name after }
 {
     match after {
-        AfterName::Nothing => tree::Prim::Name { at, name },
-        AfterName::Key(key) => tree::Prim::Entry { at, name, key },
-        AfterName::Args(args) => tree::Prim::Apply { at, name, args },
+        AfterName::Nothing => tree::Primary::Name { at, name },
+        AfterName::Key(key) => tree::Primary::Entry { at, name, key },
+        AfterName::Args(args) => tree::Primary::Apply { at, name, args },
     }
 }

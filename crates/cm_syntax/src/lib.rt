@@ -21,7 +21,7 @@ mod whole;
 
 pub use fault::SyntaxFault;
 pub use tree::{
-    Block, Cmp, Decl, Expr, Num, Part, Post, Prim, Relation, Set, Stmt, Sum, Tree, Type, Unary,
+    Block, Cmp, Decl, Expr, Num, Part, Post, Primary, Relation, Set, Stmt, Sum, Tree, Type, Unary,
 };
 pub use whole::{one_tree, read_tree};
 

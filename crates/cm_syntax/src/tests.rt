@@ -279,26 +279,26 @@ fn each_statement_is_read_as_it_is_written(rt: HostRuntime) -> Result<(), Fail> 
     Ok(())
 }
 
-fn prim_kind(prim: &Prim) -> (&'static str, Place) {
+fn prim_kind(prim: &Primary) -> (&'static str, Place) {
     match prim {
-        Prim::Number {
+        Primary::Number {
             at,
             value: Num::Digits { .. },
         } => ("number", *at),
-        Prim::Number {
+        Primary::Number {
             at,
             value: Num::Negative { .. },
         } => ("negative", *at),
-        Prim::True { at } => ("true", *at),
-        Prim::False { at } => ("false", *at),
-        Prim::It { at } => ("it", *at),
-        Prim::Name { at, .. } => ("name", *at),
-        Prim::Entry { at, .. } => ("entry", *at),
-        Prim::Apply { at, args, .. } if args.len() == 0 => ("apply to none", *at),
-        Prim::Apply { at, .. } => ("apply", *at),
-        Prim::NoneOf { at, .. } => ("none", *at),
-        Prim::SomeOf { at, .. } => ("some", *at),
-        Prim::Group { at, .. } => ("group", *at),
+        Primary::True { at } => ("true", *at),
+        Primary::False { at } => ("false", *at),
+        Primary::It { at } => ("it", *at),
+        Primary::Name { at, .. } => ("name", *at),
+        Primary::Entry { at, .. } => ("entry", *at),
+        Primary::Apply { at, args, .. } if args.len() == 0 => ("apply to none", *at),
+        Primary::Apply { at, .. } => ("apply", *at),
+        Primary::NoneOf { at, .. } => ("none", *at),
+        Primary::SomeOf { at, .. } => ("some", *at),
+        Primary::Group { at, .. } => ("group", *at),
     }
 }
 

@@ -251,7 +251,7 @@ pub enum Unary {
 #[derive(Drop)]
 pub struct Post {
     pub at: Place,
-    pub prim: Prim,
+    pub prim: Primary,
     pub fields: List<Name>,
     pub sets: List<Set>,
 }
@@ -268,7 +268,7 @@ pub struct Set {
 /// An expression without a sign between its parts.
 #[cycle(expressions)]
 #[derive(Drop)]
-pub enum Prim {
+pub enum Primary {
     Number {
         at: Place,
         value: Num,
