@@ -1,0 +1,34 @@
+//! The type checker: the tree of a text becomes the tables of a model, or the first type rule that fails is named.
+//!
+//! A part of a tree is told by one walk in the order of the text to be what it becomes, with its type; the first rule
+//! that fails ends the walk. The definitions in `specs` are the same walk, but go on to the end and list each failure.
+#![tactic(auto)]
+
+mod check;
+mod decl;
+mod expr;
+mod fault;
+mod flat;
+mod names;
+mod post;
+mod prim;
+mod routine;
+pub mod rules;
+mod scope;
+mod stmt;
+mod told;
+mod types;
+mod value;
+mod weights;
+
+pub use check::check_tables;
+pub use fault::TypeFault;
+pub use flat::{Base, Flat, Kind};
+pub use names::{Entry, Names};
+pub use scope::{Draft, Scope};
+pub use told::{
+    Body, Done, FieldPath, FoundCell, FoundField, FoundMap, Params, Routine, Sets, Steps, Typed,
+};
+
+#[cfg(test)]
+mod tests;
