@@ -17,6 +17,3 @@ pub use functions::routines;
 pub use options::payloads;
 pub use points::records;
 pub use registers::{map, opt, reg};
-
-#[cfg(test)]
-mod tests;

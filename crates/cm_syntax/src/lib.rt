@@ -24,6 +24,3 @@ pub use tree::{
     Block, Cmp, Decl, Expr, Num, Part, Post, Primary, Relation, Set, Stmt, Sum, Tree, Type, Unary,
 };
 pub use whole::{one_tree, read_tree};
-
-#[cfg(test)]
-mod tests;

@@ -1,20 +1,24 @@
-//! Values as tests write them. A contract knows that their numbers are small.
+//! Values and cells as rows write them. A contract knows that their numbers are small.
 
-ghost use Rattle.std.specs.Prelude.{IfOk, IsTrue};
+ghost use Rattle.std.specs.Prelude.{◌≡◌, [], ◌∷◌, IfOk, IsTrue};
 ghost use Rattle.cm_value.specs.Limits.{is_limited};
 ghost use Rattle.cm_eval.specs.Limits.{are_limited};
 
-use crate::parts::{one, two};
+use anyhow::{Result, bail};
 use cm_model::{Boxed, List, NoMemory};
 use cm_value::{Vals, Value};
 use std::alloc::Global;
 
-/// A value that a test gives or wants.
+/// A value as a row gives it.
 #[derive(Clone, Copy)]
 pub enum Given {
+    /// The element of a sort with this number.
     Elem(u64),
+    /// A number of an integer type.
     Number(u8),
+    /// A variant of bool, the second one where this is true.
     Flag(bool),
+    /// The none of an option.
     None,
     /// An element as the payload of an option.
     SomeElem(u64),
@@ -22,6 +26,66 @@ pub enum Given {
     Elems(u64, u64),
 }
 
+/// A cell with its value.
+#[derive(Clone, Copy)]
+pub struct HeldCell {
+    /// The number of the state.
+    pub state: u16,
+    /// The element that is the key, where the state is a map.
+    pub key: Option<u64>,
+    /// The value.
+    pub value: Given,
+}
+
+/// The number of the element that a word stands for.
+pub fn element(word: &str) -> Result<u64> {
+    match word.strip_prefix('#') {
+        Some(number) => Ok(number.parse::<u64>()?),
+        None => bail!("no element: {word}"),
+    }
+}
+
+/// The value that a word stands for.
+pub fn read_given(word: &str) -> Result<Given> {
+    if word == "none" {
+        return Ok(Given::None);
+    }
+    if let Some((left, right)) = word.split_once(',') {
+        return Ok(Given::Elems(element(left)?, element(right)?));
+    }
+    if let Some(payload) = word.strip_prefix("some") {
+        return Ok(Given::SomeElem(element(payload)?));
+    }
+    if word == ".0" || word == ".1" {
+        return Ok(Given::Flag(word == ".1"));
+    }
+    if word.starts_with('#') {
+        return Ok(Given::Elem(element(word)?));
+    }
+    Ok(Given::Number(word.parse::<u8>()?))
+}
+
+/// The cell that a word stands for.
+pub fn held(word: &str) -> Result<HeldCell> {
+    let Some((cell, value)) = word.split_once('=') else {
+        bail!("no cell: {word}");
+    };
+    let value = read_given(value)?;
+    match cell.split_once('[') {
+        Some((state, key)) => Ok(HeldCell {
+            state: state.parse::<u16>()?,
+            key: Some(element(key.trim_end_matches(']'))?),
+            value,
+        }),
+        None => Ok(HeldCell {
+            state: cell.parse::<u16>()?,
+            key: None,
+            value,
+        }),
+    }
+}
+
+/// The value itself.
 pub fn value_of(alloc: Global, given: Given) -> Result<Value, NoMemory>
     ensures limited { IfOk result (λ v. IsTrue (is_limited v)) }
 {
@@ -35,7 +99,7 @@ pub fn value_of(alloc: Global, given: Given) -> Result<Value, NoMemory>
     }
 }
 
-/// The first two of these values.
+/// The values, in order.
 pub fn values_of(alloc: Global, given: &[Given]) -> Result<Vals, NoMemory>
     ensures limited { IfOk result (λ values. IsTrue (are_limited values)) }
 {
@@ -50,6 +114,23 @@ fn nothing(alloc: Global) -> Vals
     ensures limited { IsTrue (are_limited result) }
 {
     List::new(alloc)
+}
+
+fn one(alloc: Global, v: Value) -> Result<Vals, NoMemory>
+    ensures exact { IfOk result (λ values. values ≡ v ∷ []) }
+{
+    let mut values = List::new(alloc);
+    values.push(v)?;
+    Ok(values)
+}
+
+fn two(alloc: Global, v: Value, w: Value) -> Result<Vals, NoMemory>
+    ensures exact { IfOk result (λ values. values ≡ v ∷ w ∷ []) }
+{
+    let mut values = List::new(alloc);
+    values.push(v)?;
+    values.push(w)?;
+    Ok(values)
 }
 
 fn only(alloc: Global, v: Given) -> Result<Vals, NoMemory>
@@ -108,31 +189,4 @@ fn of_two(alloc: Global, v: Value, w: Value) -> Result<Value, NoMemory>
 {
     let parts = two(alloc, v, w)?;
     Ok(Value::Rec(parts))
-}
-
-/// Whether a value is the one given.
-pub fn is(v: &Value, given: Given) -> bool {
-    match (v, given) {
-        (Value::Elem(m), Given::Elem(n)) => *m == n,
-        (Value::Int(m), Given::Number(n)) => *m == i64::from(n),
-        (Value::Tag(m), Given::Flag(b)) => *m == u16::from(b),
-        (Value::None, Given::None) => true,
-        (Value::Some(payload), Given::SomeElem(n)) => is_elem(payload.get(), n),
-        (Value::Rec(parts), Given::Elems(m, n)) => are_elems(parts.as_slice(), m, n),
-        _ => false,
-    }
-}
-
-fn is_elem(v: &Value, n: u64) -> bool {
-    match v {
-        Value::Elem(m) => *m == n,
-        _ => false,
-    }
-}
-
-fn are_elems(parts: &[Value], m: u64, n: u64) -> bool {
-    match parts {
-        [v, w] => is_elem(v, m) && is_elem(w, n),
-        _ => false,
-    }
 }
