@@ -19,3 +19,4 @@ pub mod Piecing
 pub mod Forms
 pub mod Good
 pub mod Rows
+pub mod Examples

@@ -4,7 +4,7 @@ ghost use Rattle.std.specs.Prelude.{◌≡◌, ◌<◌, ◌+◌, ◌++◌, ◌�
 ghost use Rattle.cm_model.specs.Types.{IsType};
 ghost use Rattle.cm_value.specs.Membership.{IsValueOf};
 ghost use Rattle.cm_value.specs.declared.value.Value.{Value};
-ghost use Rattle.cm_term.specs.Valuation.{Valuation};
+ghost use Rattle.cm_term.specs.Valuation.{Valuation, Var};
 ghost use Rattle.cm_term.specs.Questions.{outcome_under};
 ghost use Rattle.cm_term.specs.Terms.{value_of};
 ghost use Rattle.cm_term.specs.declared.term.Term.{Term};
@@ -12,10 +12,10 @@ ghost use Rattle.cm_ctx.specs.declared.choice.Choice.{Choice};
 ghost use Rattle.cm_ctx.specs.declared.piece.ElementPart.{ElementPart};
 ghost use Rattle.cm_ctx.specs.declared.piece.Piece.{Piece};
 ghost use Rattle.cm_ctx.specs.Masks.{Has};
-ghost use Rattle.cm_ctx.specs.Making.{Place, counted, made_of, piece_of, variables};
+ghost use Rattle.cm_ctx.specs.Making.{Place, counted, first_counts, made_of, piece_of, variables};
 ghost use Rattle.cm_ctx.specs.Giving.{Gives, Agree};
 ghost use Rattle.cm_ctx.specs.Grown.{IsFitting, Grows};
-ghost use Rattle.cm_ctx.specs.Asking.{IsAmong, IsNew, IsPayload};
+ghost use Rattle.cm_ctx.specs.Asking.{IsAmong, IsNew, IsPayload, InRow, Owns};
 ghost use Rattle.cm_ctx.specs.Contexts.{Satisfies, Allows, Keeps, Implies, IsSatisfiable, IsQuestion, HasSpare, counts_of, payloads_of};
 ghost use Rattle.cm_ctx.specs.Knowing.{known_of};
 
@@ -87,6 +87,16 @@ impl Ctx {
             },
             asked,
         })
+    }
+
+    /// Tells a proof that some valuation satisfies the context, and that no variable was made for two symbols.
+    pub fn has_valuation(&self)
+        ensures satisfiable { IsSatisfiable self.now }
+        ensures row { InRow first_counts self.now.pieces (counts_of self.now) }
+        ensures apart { (j k : ℕ) (p q : Piece) (x : Var) → slice_get self.now.pieces j ≡ Some p → slice_get self.now.pieces k ≡ Some q
+            → Owns p x → Owns q x → j ≡ k }
+    {
+        let _ = self.tags.len();
     }
 
     /// Makes room for the outcome of any question until the next `fresh_of`.

@@ -19,3 +19,6 @@ pub use facts::Facts;
 pub use mask::Mask;
 pub use piece::{Counts, ElementPart, NumberPart, OptionPart, Piece, TagPart, Variables};
 pub use steps::Steps;
+
+#[cfg(test)]
+mod tests;
