@@ -93,7 +93,9 @@ IsOpt count (opt.Var o) = o.0 < count
 
 -- a question on variables that are there, with numbers that are small
 abbrev pub IsQuestion : Context → Question → Type 0
-IsQuestion c (question.Elems x y) = (x.0 < length c.classes.sorts) × (y.0 < length c.classes.sorts) × (slice_index c.classes.sorts x.0 ≡ slice_index c.classes.sorts y.0)
+IsQuestion c (question.Elems x y) =
+    (x.0 < length c.classes.sorts) × (y.0 < length c.classes.sorts)
+    × (slice_index c.classes.sorts x.0 ≡ slice_index c.classes.sorts y.0)
 IsQuestion c (question.Nums a b) = IsNum (length c.bounds) a × IsNum (length c.bounds) b
 IsQuestion c (question.Range a lo hi) = IsNum (length c.bounds) a × IsSmall lo × IsSmall hi × (lo ≤ℤ hi)
 IsQuestion c (question.TagOf a) = IsTag (length c.tags) a

@@ -45,7 +45,8 @@ LiesIn n x d = (d.lo ≤ℤ n x) × (n x ≤ℤ d.hi)
 
 -- the payload's value rests on earlier options alone
 abbrev pub RestsBelow : Counts → ℕ → OptionPart → Type 0
-RestsBelow c o d = (v w : Valuation) → Agree (counts c.elements c.numbers c.tags o) v w → value_of v d.payload ≡ value_of w d.payload
+RestsBelow c o d = (v w : Valuation) → Agree (counts c.elements c.numbers c.tags o) v w
+    → value_of v d.payload ≡ value_of w d.payload
 
 -- the ranges and enums are those of a model, and payloads rest on earlier options
 pub record IsFitting (p : Piece) : Type 0 where

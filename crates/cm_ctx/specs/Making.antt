@@ -45,7 +45,8 @@ both v w = variables (v.elements ++ w.elements) (v.numbers ++ w.numbers) (v.tags
 
 -- how many there are with these variables
 abbrev pub counted : Counts → Variables → Counts
-counted c v = counts (c.elements + length v.elements) (c.numbers + length v.numbers) (c.tags + length v.tags) (c.options + length v.options)
+counted c v =
+    counts (c.elements + length v.elements) (c.numbers + length v.numbers) (c.tags + length v.tags) (c.options + length v.options)
 
 -- where a part is made: of which symbol, and how many variables there are before it
 pub record Place : Type 0 where
@@ -77,7 +78,8 @@ abbrev pub Maker : Type 0
 Maker = Place → Made
 
 abbrev pub element_made : ℕ → Maker
-element_made s p = made (term.Elem (record { 0 = p.from.elements })) (variables (record { sort = s; sym = sym_of p } ∷ []) [] [] [])
+element_made s p =
+    made (term.Elem (record { 0 = p.from.elements })) (variables (record { sort = s; sym = sym_of p } ∷ []) [] [] [])
 
 abbrev pub highest : Option IntDecl → ℤ
 highest (Some d) = d.hi
@@ -92,7 +94,8 @@ variants_of (Some d) = length d.variants
 variants_of None = 1
 
 abbrev pub tag_made : Option EnumDecl → Maker
-tag_made d p = made (term.Tag (tag.Var (record { 0 = p.from.tags }))) (variables [] [] (record { variants = variants_of d; sym = sym_of p } ∷ []) [])
+tag_made d p = made (term.Tag (tag.Var (record { 0 = p.from.tags })))
+    (variables [] [] (record { variants = variants_of d; sym = sym_of p } ∷ []) [])
 
 -- the option of a payload; its number comes after those of the options in the payload
 abbrev pub with_option : Place → Made → Made
@@ -118,7 +121,9 @@ first_field m f = fields (m.term ∷ f.terms) (both m.variables f.variables)
 
 abbrev pub fields_made : ℕ → List Maker → Place → Fields
 fields_made i [] p = no_fields
-fields_made i (m ∷ ms) p = first_field (m (into p (step.Field i))) (fields_made (i + 1) ms (behind p (m (into p (step.Field i))).variables))
+fields_made i (m ∷ ms) p =
+    first_field (m (into p (step.Field i)))
+    (fields_made (i + 1) ms (behind p (m (into p (step.Field i))).variables))
 
 abbrev pub of_fields : Fields → Made
 of_fields f = made (term.Rec f.terms) f.variables

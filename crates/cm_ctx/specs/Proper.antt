@@ -15,7 +15,8 @@ use Rattle.cm_ctx.specs.Contexts.{Context, counts_of, payloads_of}
 
 -- the value of a term rests on no payload but those of the options below k
 abbrev pub IsEarlier : ℕ → Term → Type 0
-IsEarlier k u = (e : ℕ → ℕ) (n : ℕ → ℤ) (t p : ℕ → ℕ) (f g : ℕ → Value) → ((o : ℕ) → o < k → f o ≡ g o) → value_of (valuation e n t p f) u ≡ value_of (valuation e n t p g) u
+IsEarlier k u = (e : ℕ → ℕ) (n : ℕ → ℤ) (t p : ℕ → ℕ) (f g : ℕ → Value) → ((o : ℕ) → o < k → f o ≡ g o)
+    → value_of (valuation e n t p f) u ≡ value_of (valuation e n t p g) u
 
 -- each payload rests on the payloads before it
 abbrev pub AreEarlier : List Term → Type 0

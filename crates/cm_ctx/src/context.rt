@@ -93,7 +93,8 @@ impl Ctx {
     pub fn has_valuation(&self)
         ensures satisfiable { IsSatisfiable self.now }
         ensures row { InRow first_counts self.now.pieces (counts_of self.now) }
-        ensures apart { (j k : ℕ) (p q : Piece) (x : Var) → slice_get self.now.pieces j ≡ Some p → slice_get self.now.pieces k ≡ Some q
+        ensures apart { (j k : ℕ) (p q : Piece) (x : Var) → slice_get self.now.pieces j ≡ Some p
+            → slice_get self.now.pieces k ≡ Some q
             → Owns p x → Owns q x → j ≡ k }
     {
         let _ = self.tags.len();
@@ -228,7 +229,8 @@ impl Ctx {
     /// # Errors
     /// `NoMemory` where memory runs out.
     pub fn try_copy(&self, alloc: Global) -> Result<Ctx, NoMemory>
-        ensures { IfOk result (λ copy. copy ≡ record self.now { classes = record self.now.classes { spare = copy.classes.spare } }) }
+        ensures { IfOk result (λ copy.
+            copy ≡ record self.now { classes = record self.now.classes { spare = copy.classes.spare } }) }
     {
         let classes = self.classes.try_copy(alloc)?;
         classes.has_valuation();
@@ -250,11 +252,15 @@ impl Ctx {
         requires steps { at.now.path ≡ [] }
         requires new { IsNew self.old.pieces at.now.root }
         ensures term { IfOk result (λ t. t ≡ (piece_of model.now ty.now at.now.root (counts_of self.old)).term) }
-        ensures pieces { OnOk result (self.new.pieces ≡ self.old.pieces ++ piece_of model.now ty.now at.now.root (counts_of self.old) ∷ []) }
-        ensures counts { OnOk result (counts_of self.new ≡ counted (counts_of self.old) (piece_of model.now ty.now at.now.root (counts_of self.old)).variables) }
+        ensures pieces { OnOk result (self.new.pieces ≡ self.old.pieces
+            ++ piece_of model.now ty.now at.now.root (counts_of self.old) ∷ []) }
+        ensures counts { OnOk result (counts_of self.new
+            ≡ counted (counts_of self.old) (piece_of model.now ty.now at.now.root (counts_of self.old)).variables) }
         ensures sorts { OnOk result (self.new.classes.sorts ≡ self.old.classes.sorts
-            ++ map (λ (d : ElementPart). d.sort) (piece_of model.now ty.now at.now.root (counts_of self.old)).variables.elements) }
-        ensures kept { OnOk result (Keeps self.old self.new (Gives (counts_of self.old) (piece_of model.now ty.now at.now.root (counts_of self.old)).variables)) }
+            ++ map (λ (d : ElementPart). d.sort)
+            (piece_of model.now ty.now at.now.root (counts_of self.old)).variables.elements) }
+        ensures kept { OnOk result (Keeps self.old self.new
+            (Gives (counts_of self.old) (piece_of model.now ty.now at.now.root (counts_of self.old)).variables)) }
         ensures unchanged { OnErr result (self.new ≡ self.old) }
     {
         let alloc = *self.tags.allocator();
@@ -361,9 +367,11 @@ fn no_variables(alloc: Global) -> Variables
 /// is given, whatever the variables before are.
 pub fn terms_have_values(model: &Model, ty: &Ty)
     requires { IsType model.now ty.now }
-    ensures typed { (p : Place) (v : Valuation) → Gives p.from (made_of model.now ty.now p).variables v → IsValueOf model.now ty.now (value_of v (made_of model.now ty.now p).term) }
+    ensures typed { (p : Place) (v : Valuation) → Gives p.from (made_of model.now ty.now p).variables v
+        → IsValueOf model.now ty.now (value_of v (made_of model.now ty.now p).term) }
     ensures free { (p : Place) (v : Valuation) (x : Value) → IsValueOf model.now ty.now x
-        → (w : Valuation) × Agree p.from v w × Gives p.from (made_of model.now ty.now p).variables w × (value_of w (made_of model.now ty.now p).term ≡ x) }
+        → (w : Valuation) × Agree p.from v w × Gives p.from (made_of model.now ty.now p).variables w
+        × (value_of w (made_of model.now ty.now p).term ≡ x) }
 {
     model.well_typed();
     let _ = ty;

@@ -34,9 +34,12 @@ pub trait Facts {
         requires steps { at.now.path ≡ [] }
         requires new { IsNew (pieces self.old) at.now.root }
         ensures term { IfOk result (λ t. t ≡ (piece_of model.now ty.now at.now.root (counts self.old)).term) }
-        ensures pieces { OnOk result (pieces self.new ≡ pieces self.old ++ piece_of model.now ty.now at.now.root (counts self.old) ∷ []) }
-        ensures counts { OnOk result (counts self.new ≡ counted (counts self.old) (piece_of model.now ty.now at.now.root (counts self.old)).variables) }
-        ensures satisfied { OnOk result ((v : Valuation) → Gives (counts self.old) (piece_of model.now ty.now at.now.root (counts self.old)).variables v
+        ensures pieces { OnOk result (pieces self.new ≡ pieces self.old
+            ++ piece_of model.now ty.now at.now.root (counts self.old) ∷ []) }
+        ensures counts { OnOk result (counts self.new
+            ≡ counted (counts self.old) (piece_of model.now ty.now at.now.root (counts self.old)).variables) }
+        ensures satisfied { OnOk result ((v : Valuation)
+            → Gives (counts self.old) (piece_of model.now ty.now at.now.root (counts self.old)).variables v
             → satisfied self.new v ↔ satisfied self.old v) };
 
     /// The term of the option's payload, whether it is decided or not. It takes no memory.

@@ -21,7 +21,8 @@ pub fn with_elements(
     classes: &Classes,
     parts: &[ElementPart],
 ) -> Result<Classes, NoMemory>
-    ensures sorts { IfOk result (λ grown. grown.sorts ≡ classes.now.sorts ++ map (λ (d : ElementPart). d.sort) parts.now) }
+    ensures sorts { IfOk result (λ grown.
+        grown.sorts ≡ classes.now.sorts ++ map (λ (d : ElementPart). d.sort) parts.now) }
     ensures kept { IfOk result (λ grown. (e : ℕ → ℕ) → sorts.Satisfies grown e ↔ sorts.Satisfies classes.now e) }
     ensures satisfiable { IfOk result sorts.IsSatisfiable }
 {
@@ -41,7 +42,8 @@ pub fn with_numbers(
 ) -> Result<Bounds, NoMemory>
     requires { AreRanges parts.now }
     ensures count { IfOk result (λ grown. length grown ≡ length bounds.now + length parts.now) }
-    ensures kept { IfOk result (λ grown. order.Keeps bounds.now grown (λ n. EachFrom (LiesIn n) (length bounds.now) parts.now)) }
+    ensures kept { IfOk result (λ grown.
+        order.Keeps bounds.now grown (λ n. EachFrom (LiesIn n) (length bounds.now) parts.now)) }
     ensures satisfiable { IfOk result order.IsSatisfiable }
 {
     let mut grown = bounds.try_copy(alloc)?;

@@ -32,7 +32,8 @@ pub fn make(
     path: &SymPath,
     ty: &Ty,
 ) -> Result<Term, NoMemory>
-    ensures { IfOk result (Adds (maker_of making.now records.now ty.now (at making.now path.now to.old)) to.old to.new) }
+    ensures { IfOk result (Adds
+        (maker_of making.now records.now ty.now (at making.now path.now to.old)) to.old to.new) }
 {
     match ty {
         Ty::Sort(sort) => make_element(making, to, path, *sort),
@@ -72,7 +73,8 @@ fn make_element(
     path: &SymPath,
     sort: u16,
 ) -> Result<Term, NoMemory>
-    ensures { IfOk result (Adds (element_made sort (at making.now path.now to.old)) to.old to.new) }
+    ensures { IfOk result (Adds
+        (element_made sort (at making.now path.now to.old)) to.old to.new) }
 {
     let x = next(making.from.elements, to.elements.len())?;
     let sym = symbol(making, path)?;
@@ -87,7 +89,8 @@ fn make_number(
     path: &SymPath,
     int: u16,
 ) -> Result<Term, NoMemory>
-    ensures { IfOk result (Adds (number_made (slice_get making.now.ints.now int) (at making.now path.now to.old)) to.old to.new) }
+    ensures { IfOk result (Adds
+        (number_made (slice_get making.now.ints.now int) (at making.now path.now to.old)) to.old to.new) }
 {
     let x = next(making.from.numbers, to.numbers.len())?;
     let sym = symbol(making, path)?;
@@ -124,7 +127,8 @@ fn make_tag(
     path: &SymPath,
     ty: u16,
 ) -> Result<Term, NoMemory>
-    ensures { IfOk result (Adds (tag_made (slice_get making.now.enums.now ty) (at making.now path.now to.old)) to.old to.new) }
+    ensures { IfOk result (Adds
+        (tag_made (slice_get making.now.enums.now ty) (at making.now path.now to.old)) to.old to.new) }
 {
     let x = next(making.from.tags, to.tags.len())?;
     let sym = symbol(making, path)?;
@@ -152,7 +156,8 @@ fn make_option(
     path: &SymPath,
     payload: &Ty,
 ) -> Result<Term, NoMemory>
-    ensures { IfOk result (Adds (option_made (maker_of making.now records.now payload.now) (at making.now path.now to.old)) to.old to.new) }
+    ensures { IfOk result (Adds
+        (option_made (maker_of making.now records.now payload.now) (at making.now path.now to.old)) to.old to.new) }
 {
     let inner = path.then(Step::Payload)?;
     let payload = make(making, records, to, &inner, payload)?;
@@ -166,7 +171,8 @@ fn add_option(
     path: &SymPath,
     payload: Term,
 ) -> Result<Term, NoMemory>
-    ensures { (before : Variables) (m : Made) → Adds m before to.old payload → IfOk result (Adds (with_option (at making.now path.now before) m) before to.new) }
+    ensures { (before : Variables) (m : Made) → Adds m before to.old payload
+        → IfOk result (Adds (with_option (at making.now path.now before) m) before to.new) }
 {
     let x = next(making.from.options, to.options.len())?;
     let sym = symbol(making, path)?;
@@ -183,7 +189,8 @@ fn make_record(
     path: &SymPath,
     rec: u16,
 ) -> Result<Term, NoMemory>
-    ensures { IfOk result (Adds (maker_at making.now records.now rec (at making.now path.now to.old)) to.old to.new) }
+    ensures { IfOk result (Adds
+        (maker_at making.now records.now rec (at making.now path.now to.old)) to.old to.new) }
 {
     let index = usize::from(rec);
     if index >= records.len() {
@@ -211,7 +218,8 @@ fn make_fields(
     path: &SymPath,
     fields: &[Part],
 ) -> Result<List<Term>, NoMemory>
-    ensures { IfOk result (AddsFields (fields_made 0 (field_makers making.now records.now fields.now) (at making.now path.now to.old)) to.old to.new) }
+    ensures { IfOk result (AddsFields
+        (fields_made 0 (field_makers making.now records.now fields.now) (at making.now path.now to.old)) to.old to.new) }
 {
     let mut terms = List::new(making.alloc);
     'fields: for i in 0..fields.len() {
