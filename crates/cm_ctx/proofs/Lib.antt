@@ -20,3 +20,4 @@ pub mod Forms
 pub mod Good
 pub mod Rows
 pub mod Examples
+pub mod Names

@@ -8,3 +8,4 @@ pub mod Grown
 pub mod Asking
 pub mod Proper
 pub mod Knowing
+pub mod Naming

@@ -3,11 +3,13 @@
 ghost use Rattle.std.specs.Prelude.{◌≡◌, ◌<◌, ◌≤◌, ◌-◌, ◌+◌, ◌*◌, ◌==◌, ◌++◌, ◌∷◌, [], ℕ, Some, IfOk, if◌then◌else◌, length, replicate, slice_get, slice_index_or};
 ghost use Rattle.cm_ctx.specs.declared.piece.Piece.{Piece};
 ghost use Rattle.cm_ctx.specs.Contexts.{payloads_in, payloads_of};
+ghost use Rattle.cm_ctx.specs.Naming.{syms_of};
 ghost use Rattle.cm_ctx.specs.Asking.{IsAmong, IsNew, number_of, with_number};
 
+use crate::naming::{self, Kind};
 use crate::piece::Piece;
 use cm_model::NoMemory;
-use cm_term::{Root, Shared, Term};
+use cm_term::{Root, Shared, Sym, Term};
 use std::alloc::Global;
 use std::marker::Model;
 
@@ -82,6 +84,14 @@ impl Asked {
         let number = number_at(options, o as usize);
         let piece = piece_at(pieces, number);
         payload_in(piece, o)
+    }
+
+    /// The symbol of a variable, by its number among those of its kind.
+    pub fn sym_of(&self, kind: Kind, number: u64) -> &Sym
+        requires { number < length (syms_of kind self.now) }
+        ensures { slice_get (syms_of kind self.now) number ≡ Some result.now }
+    {
+        naming::sym_of(self.pieces.as_slice(), kind, number as usize)
     }
 
     /// What was made for a root.

@@ -1,6 +1,6 @@
 //! Contexts.
 
-ghost use Rattle.std.specs.Prelude.{◌≡◌, ◌<◌, ◌+◌, ◌++◌, ◌∷◌, ◌↔◌, [], ℕ, Some, true, None, IfOk, OnOk, OnErr, length, map, slice_get};
+ghost use Rattle.std.specs.Prelude.{◌≡◌, ◌<◌, ◌+◌, ◌-◌, ◌++◌, ◌∷◌, ◌↔◌, [], ℕ, Some, true, None, IfOk, OnOk, OnErr, length, map, slice_get};
 ghost use Rattle.cm_model.specs.Types.{IsType};
 ghost use Rattle.cm_value.specs.Membership.{IsValueOf};
 ghost use Rattle.cm_value.specs.declared.value.Value.{Value};
@@ -17,16 +17,19 @@ ghost use Rattle.cm_ctx.specs.Giving.{Gives, Agree};
 ghost use Rattle.cm_ctx.specs.Grown.{IsFitting, Grows};
 ghost use Rattle.cm_ctx.specs.Asking.{IsAmong, IsNew, IsPayload, InRow, Owns};
 ghost use Rattle.cm_ctx.specs.Contexts.{Satisfies, Allows, Keeps, Implies, IsSatisfiable, IsQuestion, HasSpare, counts_of, payloads_of};
+ghost use Rattle.cm_ctx.specs.declared.naming.Kind.TheVariants as kind;
+ghost use Rattle.cm_ctx.specs.Naming.{syms_of};
 ghost use Rattle.cm_ctx.specs.Knowing.{known_of};
 
 use crate::asked::Asked;
 use crate::choice::{self, Choice, Known};
 use crate::making::{self, Making};
 use crate::mask::Mask;
+use crate::naming::Kind;
 use crate::piece::{Counts, Piece, Variables};
 use crate::steps::Steps;
 use crate::{elements, grown, numbers};
-use cm_model::{List, Model, NoMemory, Ty};
+use cm_model::{IntVar, List, Model, NoMemory, SortVar, Ty};
 use cm_order::Bounds;
 use cm_sorts::Classes;
 use cm_term::{OptVar, Question, Root, Shared, Sym, SymPath, TagVar, Term};
@@ -208,6 +211,39 @@ impl Ctx {
         ensures { (p : Piece) → IsAmong self.now.pieces p → p.root ≡ root → result.now ≡ p.term }
     {
         &self.asked.get().piece_of(root).term
+    }
+
+    /// The symbol of an element's variable.
+    pub fn sym_of_sort(&self, x: SortVar) -> &Sym
+        requires { x.0 < length self.now.classes.sorts }
+        ensures { slice_get (syms_of kind.Element self.now.pieces) x.0 ≡ Some result.now }
+    {
+        self.asked.get().sym_of(Kind::Element, x.0)
+    }
+
+    /// The symbol of a number's variable; variable 0 is the constant 0 and has none.
+    pub fn sym_of_int(&self, x: IntVar) -> &Sym
+        requires there { x.0 < length self.now.bounds }
+        requires variable { 0 < x.0 }
+        ensures { slice_get (syms_of kind.Number self.now.pieces) (x.0 - 1) ≡ Some result.now }
+    {
+        self.asked.get().sym_of(Kind::Number, x.0 - 1)
+    }
+
+    /// The symbol of a variant's variable.
+    pub fn sym_of_tag(&self, x: TagVar) -> &Sym
+        requires { x.0 < length self.now.tags }
+        ensures { slice_get (syms_of kind.Tag self.now.pieces) x.0 ≡ Some result.now }
+    {
+        self.asked.get().sym_of(Kind::Tag, x.0)
+    }
+
+    /// The symbol of an option's variable.
+    pub fn sym_of_opt(&self, o: OptVar) -> &Sym
+        requires { o.0 < length self.now.options }
+        ensures { slice_get (syms_of kind.Option self.now.pieces) o.0 ≡ Some result.now }
+    {
+        self.asked.get().sym_of(Kind::Option, o.0)
     }
 
     /// The classes of the elements.

@@ -9,6 +9,7 @@ mod facts;
 mod grown;
 mod making;
 mod mask;
+mod naming;
 mod numbers;
 mod piece;
 mod steps;
