@@ -29,6 +29,3 @@ pub use scope::{Draft, Scope};
 pub use told::{
     Body, Done, FieldPath, FoundCell, FoundField, FoundMap, Params, Routine, Sets, Steps, Typed,
 };
-
-#[cfg(test)]
-mod tests;
