@@ -14,7 +14,7 @@ use crate::merge::{conflict_lines, merged};
 use crate::slots::Record;
 use crate::table::Table;
 use cm_model::{List, NoMemory};
-use cm_mtrace::{Entry, Who};
+use cm_mtrace::{Entry, Item, Who};
 use std::alloc::Global;
 use std::marker::Model;
 
@@ -109,6 +109,14 @@ impl Judge {
             spill: Vec::new(alloc),
             spill_limit: SPILL,
         }
+    }
+
+    /// Makes room for the lines of items that are added next. The judge stands for what it stood for; with room made,
+    /// entries of a large section are added faster.
+    pub fn make_room(&mut self, items: &[Item])
+        ensures stands { (entries : List Entry) → StandsFor self.old entries → StandsFor self.new entries }
+    {
+        self.table.make_room_ahead(self.alloc, items);
     }
 
     /// Adds an entry of the section.

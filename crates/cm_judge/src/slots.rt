@@ -1,6 +1,6 @@
 //! The slots of a table of lines.
 
-ghost use Rattle.std.specs.Prelude.{◌≡◌, ◌≢◌, ◌⊎◌, ◌+◌, ◌≤◌, ◌%◌, ◌↔◌, List, IsTrue, false};
+ghost use Rattle.std.specs.Prelude.{◌≡◌, ◌≢◌, ◌⊎◌, ◌+◌, ◌≤◌, ◌%◌, ◌↔◌, List, IsTrue, false, length, slice_index_or};
 ghost use Rattle.cm_mtrace.specs.declared.item.Entry.{Entry};
 ghost use Rattle.cm_mtrace.specs.declared.item.Kind.{Kind};
 ghost use Rattle.cm_mtrace.specs.declared.item.Who.{Who};
@@ -68,6 +68,16 @@ fn first_slot_of(line: u64, slots: usize) -> usize
     let hash = (line / 64).wrapping_mul(0x9e37_79b9_7f4a_7c15) >> 32;
     let firsts = (slots - WINDOW) as u64;
     ((hash * firsts.min(MOST)) >> 32) as usize
+}
+
+/// Whether the line has the first slot that it may have.
+#[inline(always)]
+pub(crate) fn is_in_first(slots: &[Record], line: u64) -> bool
+    requires { WINDOW ≤ length slots.now }
+    ensures { (d : Record) → IsTrue result
+        ↔ ((slice_index_or slots.now (first_slot line (length slots.now)) d).line ≡ line) }
+{
+    slots[first_slot_of(line, slots.len())].line == line
 }
 
 /// The slot that has the line, or is free for it.

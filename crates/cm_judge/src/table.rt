@@ -12,9 +12,9 @@ ghost use Rattle.cm_judge.specs.inner.Table.{ListsLines, Notes, SameRecords};
 use crate::grow::{grown, limit_of};
 use crate::line::Lines;
 use crate::merge::{conflict_lines, conflict_listed};
-use crate::slots::{Place, Record, first_record, place_for};
+use crate::slots::{Place, Record, first_record, is_in_first, place_for};
 use cm_model::NoMemory;
-use cm_mtrace::Entry;
+use cm_mtrace::{Entry, Item};
 use std::alloc::Global;
 use std::marker::Model;
 
@@ -74,6 +74,24 @@ fn free_all(slots: &mut [Record])
     for slot in slots.iter_mut() {
         *slot = Record::free();
     }
+}
+
+// A table of fewer slots stays in the processor's caches, so nothing is gained by looking ahead.
+const NEAR: usize = 4096;
+
+// How many of the items may bring a line that has no slot yet: the line does not have its first slot. The slots
+// are asked for one right after another, so that memory answers for many at once. In a small table none is.
+fn new_lines(slots: &[Record], items: &[Item]) -> usize {
+    if slots.len() < NEAR {
+        return 0;
+    }
+    let mut new: usize = 0;
+    for item in items {
+        if let Item::Entry(e) = item {
+            new += usize::from(!is_in_first(slots, e.addr - e.addr % 64));
+        }
+    }
+    new
 }
 
 // Whether one of the lines has no place.
@@ -185,14 +203,12 @@ impl Table {
         self.held > self.limit / 4 && some_has_none(self.slots.as_slice(), lines)
     }
 
-    /// Lets the table grow where it is short of room for some lines.
-    pub(crate) fn make_room(&mut self, alloc: Global, lines: Lines) -> Result<(), NoMemory>
-        ensures ok { OnOk result (SameRecords self.old self.new) }
+    // Lets the table grow, or become fuller where growing finds no place for a record.
+    #[inline(never)]
+    fn grow(&mut self, alloc: Global) -> Result<(), NoMemory>
+        ensures same { SameRecords self.old self.new }
         ensures err { OnErr result (self.new ≡ self.old) }
     {
-        if !self.is_short(lines) {
-            return Ok(());
-        }
         match grown(alloc, self.slots.as_slice())? {
             Some(larger) => {
                 self.slots = larger;
@@ -202,6 +218,28 @@ impl Table {
             None => self.limit = self.held.saturating_mul(8),
         }
         Ok(())
+    }
+
+    /// Lets the table grow where it is short of room for some lines.
+    pub(crate) fn make_room(&mut self, alloc: Global, lines: Lines) -> Result<(), NoMemory>
+        ensures same { SameRecords self.old self.new }
+        ensures err { OnErr result (self.new ≡ self.old) }
+    {
+        if !self.is_short(lines) {
+            return Ok(());
+        }
+        self.grow(alloc)
+    }
+
+    /// Lets the table grow where it may be short of room for the lines of some items. Without memory for it the
+    /// table stays as it is.
+    pub(crate) fn make_room_ahead(&mut self, alloc: Global, items: &[Item])
+        ensures { SameRecords self.old self.new }
+    {
+        let more = new_lines(self.slots.as_slice(), items);
+        if self.held.saturating_add(more) > self.limit {
+            let _ = self.grow(alloc);
+        }
     }
 
     /// The lines in conflict, ascending, each once.
