@@ -16,7 +16,7 @@ use Rattle.cm_judge.specs.declared.summary.LineSummary.{LineSummary}
 use Rattle.cm_judge.specs.declared.slots.Record.{Record}
 use Rattle.cm_judge.specs.Judge.{KeepLine}
 use Rattle.cm_judge.specs.Summary.{AreBoundsOf, cores_of, IsAccess, IsWithin, no_cores, Touches, with_core}
-use Rattle.cm_judge.specs.inner.Table.{HoldsFirst, IsFreeFor, Notes}
+use Rattle.cm_judge.specs.inner.Table.{HoldsFirst, IsFreeFor, IsOfFirst, Notes}
 
 pub any_of : {X : Type 0} (P : X → Type 0) (xs : List X) (x : X) → Contains xs x → P x → Any P xs
 any_of P xs x has p = (has.0, x, has.1, has.2, p)
@@ -256,13 +256,13 @@ noted_held slots rest k line q e s holds is covers judged small own others =
     }) own others
 
 -- the first access of a line, in a free slot
-pub noted_filled : (slots rest : List Record) (k line : ℕ) (r : Record) (e : Entry) → IsFreeFor slots line k → r.line ≡ line → Covers e line → e.core ≤ 65535
-    → cores_of r.summary e.who e.kind ≡ with_core no_cores e.core
-    → ((who : Who) (kind : Kind) → (who ≢ e.who) ⊎ (kind ≢ e.kind) → cores_of r.summary who kind ≡ no_cores)
-    → Notes (slots ++ rest) (set slots k r ++ rest) line e
-noted_filled slots rest k line r e free is covers small own others =
+pub noted_filled : (slots rest : List Record) (k line : ℕ) (r : Record) (e : Entry) → IsFreeFor slots line k
+    → Covers e line → IsOfFirst r line e → Notes (slots ++ rest) (set slots k r ++ rest) line e
+noted_filled slots rest k line r e free covers first =
     let step = Replaces-set slots rest k r r free.in_table (λ aligned. absurd (free.free r aligned)) in
     record {
-      here = λ entries h. Keep-here (slots ++ rest) (set slots k r ++ rest) r entries e line is step covers small (no_cores, inr refl, own) (λ who kind judged apart. inr (others who kind apart)) h;
-      elsewhere = λ entries other aligned apart h. Keep-elsewhere (slots ++ rest) (set slots k r ++ rest) r entries other aligned step (λ same. apart (same ∙ is)) h;
+      here = λ entries h. Keep-here (slots ++ rest) (set slots k r ++ rest) r entries e line first.line_is step covers first.small
+      (no_cores, inr refl, first.own) (λ who kind judged apart. inr (first.others who kind apart)) h;
+      elsewhere = λ entries other aligned apart h.
+          Keep-elsewhere (slots ++ rest) (set slots k r ++ rest) r entries other aligned step (λ same. apart (same ∙ first.line_is)) h;
     }

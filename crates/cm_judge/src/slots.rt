@@ -6,8 +6,8 @@ ghost use Rattle.cm_mtrace.specs.declared.item.Kind.{Kind};
 ghost use Rattle.cm_mtrace.specs.declared.item.Who.{Who};
 ghost use Rattle.cm_mtrace.specs.declared.item.Who.TheVariants.{Other};
 ghost use Rattle.cm_judge.specs.Conflicts.{IsConflictLine};
-ghost use Rattle.cm_judge.specs.Summary.{cores_of, no_cores, with_core, IsSummaryOf};
-ghost use Rattle.cm_judge.specs.inner.Table.{first_slot, IsPlaceFor};
+ghost use Rattle.cm_judge.specs.Summary.{IsSummaryOf};
+ghost use Rattle.cm_judge.specs.inner.Table.{first_slot, IsOfFirst, IsPlaceFor};
 
 use crate::summary::LineSummary;
 use cm_mtrace::Entry;
@@ -34,6 +34,28 @@ impl Record {
         ensures { IsTrue result ↔ (self.now.line % 64 ≡ 0) }
     {
         self.line % 64 == 0
+    }
+
+    /// Makes it the record of the first access to a line. It is made where it stands: a copy would be read before all
+    /// of its parts are written, and wait for them.
+    #[inline(always)]
+    pub(crate) fn begin(&mut self, line: u64, e: &Entry)
+        requires { e.now.who ≢ Other }
+        ensures first { IsOfFirst self.new line e.now }
+    {
+        self.line = line;
+        self.summary = LineSummary::blank();
+        self.summary.add(e);
+    }
+
+    /// A record of the first access to a line.
+    pub(crate) fn of_first(line: u64, e: &Entry) -> Record
+        requires { e.now.who ≢ Other }
+        ensures first { IsOfFirst result line e.now }
+    {
+        let mut record = Record::free();
+        record.begin(line, e);
+        record
     }
 
     /// The record is one of a line, and its accesses conflict there.
@@ -99,18 +121,4 @@ pub(crate) fn place_for(slots: &[Record], line: u64) -> Place
         }
     }
     Place::Nowhere
-}
-
-/// A record of the first access to a line.
-#[inline(always)]
-pub(crate) fn first_record(line: u64, e: &Entry) -> Record
-    requires { e.now.who ≢ Other }
-    ensures line { result.line ≡ line }
-    ensures own { cores_of result.summary e.now.who e.now.kind ≡ with_core no_cores e.now.core }
-    ensures others { (who : Who) (kind : Kind) → (who ≢ e.now.who) ⊎ (kind ≢ e.now.kind) → cores_of result.summary who kind ≡ no_cores }
-    ensures small { e.now.core ≤ 65535 }
-{
-    let mut summary = LineSummary::blank();
-    summary.add(e);
-    Record { line, summary }
 }

@@ -12,7 +12,7 @@ ghost use Rattle.cm_judge.specs.inner.Table.{ListsLines, Notes, SameRecords};
 use crate::grow::{grown, limit_of};
 use crate::line::Lines;
 use crate::merge::{conflict_lines, conflict_listed};
-use crate::slots::{Place, Record, first_record, is_in_first, place_for};
+use crate::slots::{Place, Record, is_in_first, place_for};
 use cm_model::NoMemory;
 use cm_mtrace::{Entry, Item};
 use std::alloc::Global;
@@ -106,7 +106,7 @@ fn some_has_none(slots: &[Record], lines: Lines) -> bool {
 }
 
 impl Table {
-    ghost use Rattle.cm_judge.specs.inner.Table.{IsFreeFor, IsPlaceFor};
+    ghost use Rattle.cm_judge.specs.inner.Table.{IsFreeFor, IsOfFirst, IsPlaceFor};
 
     /// A table of no slots.
     pub(crate) fn new(alloc: Global) -> Table
@@ -128,13 +128,14 @@ impl Table {
         place_for(self.slots.as_slice(), line)
     }
 
-    // Puts a record in a free slot.
+    // Puts the first access to a line in a free slot.
     #[inline(always)]
-    fn fill(&mut self, k: usize, filled: Record)
-        requires { IsFreeFor self.old filled.line k }
-        ensures { self.new ≡ slice_set self.old k filled }
+    fn fill(&mut self, k: usize, line: u64, e: &Entry)
+        requires judged { e.now.who ≢ Other }
+        requires free { IsFreeFor self.old line k }
+        ensures filled { (r : Record) × (self.new ≡ slice_set self.old k r) × IsOfFirst r line e.now }
     {
-        self.slots[k] = filled;
+        self.slots[k].begin(line, e);
         self.held = self.held.saturating_add(1);
         self.is_listed = list_slot(&mut self.used, self.is_listed, k);
     }
@@ -157,7 +158,7 @@ impl Table {
                 if self.held >= most {
                     return false;
                 }
-                self.fill(k, first_record(line, e));
+                self.fill(k, line, e);
                 true
             }
             Place::Nowhere => false,
@@ -188,7 +189,7 @@ impl Table {
         if self.note_within(line, e, usize::MAX) {
             return;
         }
-        match spill.push(first_record(line, e)) {
+        match spill.push(Record::of_first(line, e)) {
             Ok(()) => {}
             Err(_) => unreachable!(),
         }

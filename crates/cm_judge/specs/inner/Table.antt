@@ -2,8 +2,11 @@
 use Rattle.std.specs.Prelude.{◌≡◌, ◌≢◌, ◌↔◌, ℕ, ◌+◌, ◌-◌, ◌*◌, ◌/◌, ◌%◌, ◌^◌, ◌<◌, ◌≤◌, ◌⊎◌, ◌++◌, [], ◌∷◌, All, Bool, true, List, Contains, length, slice_index_or, min}
 use Rattle.cm_mtrace.specs.declared.item.Entry.{Entry}
 use Rattle.cm_mtrace.specs.Lines.{Covers}
+use Rattle.cm_mtrace.specs.declared.item.Kind.{Kind}
+use Rattle.cm_mtrace.specs.declared.item.Who.{Who}
 use Rattle.cm_judge.specs.Conflicts.{IsConflictLine}
 use Rattle.cm_judge.specs.Judge.{KeepLine, StandsFor}
+use Rattle.cm_judge.specs.Summary.{cores_of, no_cores, with_core}
 use Rattle.cm_judge.specs.declared.line.Lines.{Lines}
 use Rattle.cm_judge.specs.declared.slots.Record.{Record}
 use Rattle.cm_judge.specs.declared.slots.Place.{Place}
@@ -55,6 +58,13 @@ pub record IsTable (slots : List Record) (used : List ℕ) (is_listed : Bool) : 
 -- the lines that the entry covers, counted from the first
 abbrev pub AreLinesOf : Entry → Lines → Type 0
 AreLinesOf e lines = (line : ℕ) → Covers e line ↔ ((k : ℕ) × (k < lines.count) × (line ≡ lines.first + 64 * k))
+
+-- the record has the line and this access alone
+pub record IsOfFirst (r : Record) (line : ℕ) (e : Entry) : Type 0 where
+  pub line_is : r.line ≡ line
+  pub own : cores_of r.summary e.who e.kind ≡ with_core no_cores e.core
+  pub others : (who : Who) (kind : Kind) → (who ≢ e.who) ⊎ (kind ≢ e.kind) → cores_of r.summary who kind ≡ no_cores
+  pub small : e.core ≤ 65535
 
 -- the access was added to what the records keep of the line
 pub record Notes (before after : List Record) (line : ℕ) (e : Entry) : Type 0 where

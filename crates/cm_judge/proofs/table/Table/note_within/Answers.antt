@@ -9,6 +9,5 @@ returns-in-Held-clause-noted c _ rest =
 
 pub returns-else-self-most-clause-noted : goal.returns-else-self-most-clause-noted
 returns-else-self-most-clause-noted c _ rest =
-    let first = c.first_record.ensures in
-    rw c.fill.ensures
-    (noted_filled c.args.self.now rest c.in-Free.k c.args.line c.first_record.result c.args.e.now c.in-Free.ensures first.line c.requires.covered first.small first.own first.others)
+    let filled = c.fill.ensures.filled in
+    rw filled.1 (noted_filled c.args.self.now rest c.in-Free.k c.args.line filled.0 c.args.e.now c.in-Free.ensures c.requires.covered filled.2)
