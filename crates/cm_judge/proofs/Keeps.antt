@@ -262,7 +262,7 @@ noted_filled slots rest k line r e free covers first =
     let step = Replaces-set slots rest k r r free.in_table (λ aligned. absurd (free.free r aligned)) in
     record {
       here = λ entries h. Keep-here (slots ++ rest) (set slots k r ++ rest) r entries e line first.line_is step covers first.small
-      (no_cores, inr refl, first.own) (λ who kind judged apart. inr (first.others who kind apart)) h;
+          (no_cores, inr refl, first.own) (λ who kind judged apart. inr (first.others who kind apart)) h;
       elsewhere = λ entries other aligned apart h.
           Keep-elsewhere (slots ++ rest) (set slots k r ++ rest) r entries other aligned step (λ same. apart (same ∙ first.line_is)) h;
     }

@@ -1,18 +1,32 @@
 -- A run over a piece more.
 use Rattle.std.proofs.Common.{◌≡◌, ℕ, ◌+◌, ◌<◌, List, [], ◌∷◌, ◌++◌, length, take, drop, get_or, Some, Option, Result, Err, IfSome, ap, sym, subst, refl, ◌∙◌, append_assoc, add-one, drop-cons}
 use Rattle.std.proofs.lemmas.List.{append-nil, take-append-drop, take_more}
+use Rattle.std.proofs.lemmas.List.Elements.{All-cons, All-head, All-nil, All-tail}
+use Rattle.std.specs.List.{All}
 use Rattle.cm_mtrace.specs.Reader.{EndsBad, NamesFirst}
-use Rattle.cm_mtrace.specs.Trace.{IsFirstBad}
+use Rattle.cm_mtrace.specs.Trace.{IsFirstBad, IsItem}
 use Rattle.cm_mtrace.specs.declared.Item.{Item}
 use Rattle.cm_mtrace.specs.declared.TraceFault.{TraceFault}
 use Rattle.cm_mtrace.specs.declared.TraceFault.TheVariants.{BadLine, Memory}
 use Rattle.cm_top.specs.Run.{NamesBad}
 
 -- the items before one, that one, and those behind it
-pub around : (before its : List Item) (i : ℕ) (d : Item) → i < length its → before ++ its ≡ (before ++ take i its) ++ get_or its i d ∷ drop (i + 1) its
-around before its i d within =
+pub around : (before its rest : List Item) (i : ℕ) (d : Item) → i < length its
+    → before ++ its ++ rest ≡ (before ++ take i its) ++ get_or its i d ∷ (drop (i + 1) its ++ rest)
+around before its rest i d within =
     let next : drop i its ≡ get_or its i d ∷ drop (i + 1) its = rw (add-one, drop-cons its i d) refl in
-    ap (λ l. before ++ l) (sym (take-append-drop i its) ∙ ap (λ l. take i its ++ l) next) ∙ sym (append_assoc before (take i its) (get_or its i d ∷ drop (i + 1) its))
+    let split : its ≡ take i its ++ get_or its i d ∷ drop (i + 1) its =
+    sym (take-append-drop i its) ∙ ap (λ l. take i its ++ l) next in
+    ap (λ l. before ++ l ++ rest) split
+    ∙ ap (λ l. l ++ rest) (sym (append_assoc before (take i its) (get_or its i d ∷ drop (i + 1) its)))
+    ∙ append_assoc (before ++ take i its) (get_or its i d ∷ drop (i + 1) its) rest
+
+-- the items of two lists
+pub all_parts : (xs ys : List Item) → All IsItem (xs ++ ys) → All IsItem xs × All IsItem ys
+all_parts [] ys all = (All-nil IsItem, all)
+all_parts (x ∷ xs) ys all =
+    let rest = all_parts xs ys (All-tail IsItem x (xs ++ ys) all) in
+    (All-cons IsItem x xs (All-head IsItem x (xs ++ ys) all) rest.0, rest.1)
 
 pub one_more : (before its : List Item) (i : ℕ) (d : Item) → i < length its → (before ++ take i its) ++ get_or its i d ∷ [] ≡ before ++ take (i + 1) its
 one_more before its i d within = append_assoc before (take i its) (get_or its i d ∷ []) ∙ ap (λ l. before ++ l) (sym (take_more its i d within))

@@ -42,6 +42,13 @@ entry_more (Some name) s t its rest sections e ended stands have is = (
   stands have.1 have.4,
 )
 
+-- a judge that stands for as much
+pub have_with : (current : Option (List ℕ)) (s t : Sections) (its : List Item) → t.ended.items ≡ s.ended.items
+    → ((es : List Entry) → StandsFor s.judge es → StandsFor t.judge es) → HaveFrom current s its → HaveFrom current t its
+have_with None s t its ended stands have = (have.0, ended ∙ have.1, stands [] have.2)
+have_with (Some name) s t its ended stands have =
+    (have.0, have.1, have.2, subst (AreJudged have.0) (sym ended) have.3, stands have.1 have.4)
+
 pub on_ok : {T E : Type 0} (r : Result T E) (P Q : Type 0) → (P → Q) → OnOk r P → OnOk r Q
 on_ok (Ok x) P Q f p = f p
 on_ok (Err e) P Q f p = p

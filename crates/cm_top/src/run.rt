@@ -18,14 +18,31 @@ pub struct Run {
     pub items: Vec<Item>,
 }
 
-// Adds the items in order.
+// For how many items room is made at once.
+const BATCH: usize = 32;
+
+// Adds some items in order, once room is made for them.
+fn add_batch(sections: &mut Sections, items: &[Item]) -> Result<(), NoMemory>
+    requires { All IsItem items.now }
+    ensures { OnOk result ((before rest : List Item) (all : List Section) → Have sections.old before
+        → items_of all ≡ before ++ items.now ++ rest → Have sections.new (before ++ items.now)) }
+{
+    sections.make_room(items);
+    for item in items {
+        sections.add(item)?;
+    }
+    Ok(())
+}
+
+// Adds the items in order. A function of its own, so that the loops that most time goes to have the registers.
+#[inline(never)]
 fn add_all(sections: &mut Sections, items: &[Item]) -> Result<(), NoMemory>
     requires { All IsItem items.now }
     ensures { OnOk result ((before : List Item) (all : List Section) → Have sections.old before
         → items_of all ≡ before ++ items.now → Have sections.new (before ++ items.now)) }
 {
-    for item in items {
-        sections.add(item)?;
+    for batch in items.chunks(BATCH) {
+        add_batch(sections, batch)?;
     }
     Ok(())
 }

@@ -51,6 +51,13 @@ impl Sections {
         Ok(())
     }
 
+    /// Makes room for items that are added next.
+    pub fn make_room(&mut self, items: &[Item])
+        ensures { (its : List Item) → Have self.old its → Have self.new its }
+    {
+        self.judge.make_room(items);
+    }
+
     /// Adds an item of the trace.
     pub fn add(&mut self, item: &Item) -> Result<(), NoMemory>
         requires { IsItem item.now }
