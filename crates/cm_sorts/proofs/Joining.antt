@@ -11,13 +11,13 @@ use Rattle.cm_sorts.proofs.Sharing.{are_marked_comm}
 use Rattle.cm_sorts.proofs.Triangle.{pairs_below_grow}
 use Rattle.cm_sorts.proofs.Valuations.{Meets, may_equal_exact, meets_from, satisfies_from}
 
-renamed_gone : (gone keep n : ℕ) → n ≡ gone → renamed gone keep n ≡ keep
+pub renamed_gone : (gone keep n : ℕ) → n ≡ gone → renamed gone keep n ≡ keep
 renamed_gone gone keep n e = rw (eq-eqb n gone e) refl
 
-renamed_other : (gone keep n : ℕ) → (n ≡ gone → ⊥) → renamed gone keep n ≡ n
+pub renamed_other : (gone keep n : ℕ) → (n ≡ gone → ⊥) → renamed gone keep n ≡ n
 renamed_other gone keep n f = rw (ne_eqb n gone f) refl
 
-shared_by : (words : List ℕ) (keep gone n i j : ℕ) → is_shared words keep gone n i j ≡ true
+pub shared_by : (words : List ℕ) (keep gone n i j : ℕ) → is_shared words keep gone n i j ≡ true
     → ((i ≡ keep) × (j < n) × (are_marked words gone j ≡ true)) ⊎ ((j ≡ keep) × (i < n) × (are_marked words gone i ≡ true))
 shared_by words keep gone n i j h = elim (or_cases (i == keep && (nat_lt j n && are_marked words gone j)) (j == keep && (nat_lt i n && are_marked words gone i)) h) [
   | inl e ↦ let a = and_parts (i == keep) (nat_lt j n && are_marked words gone j) e in let b = and_parts (nat_lt j n) (are_marked words gone j) a.1 in
@@ -45,7 +45,7 @@ pub record Joins (labels words new : List ℕ) (keep gone : ℕ) : Type 0 where
 abbrev joined : List ℕ → ℕ → ℕ → List ℕ
 joined labels keep gone = map (renamed gone keep) labels
 
-joined_label : (labels : List ℕ) (keep gone x : ℕ) → x < length labels → slice_index (joined labels keep gone) x ≡ renamed gone keep (slice_index labels x)
+pub joined_label : (labels : List ℕ) (keep gone x : ℕ) → x < length labels → slice_index (joined labels keep gone) x ≡ renamed gone keep (slice_index labels x)
 joined_label labels keep gone x h = get_or-map (renamed gone keep) labels x 0 0 h
 
 linked : (labels words new : List ℕ) (keep gone : ℕ) → Joins labels words new keep gone → (p q : ℕ) → p < length labels → q < length labels → p ≢ q → are_marked words p q ≡ true
@@ -151,7 +151,7 @@ pub record Parts (labels words new : List ℕ) (a b : ℕ) : Type 0 where
   pub differ : a ≢ b
   pub marks : (i j : ℕ) → are_marked new i j ≡ (are_marked words i j || is_pair a b i j)
 
-pair_by : (a b i j : ℕ) → is_pair a b i j ≡ true → ((i ≡ a) × (j ≡ b)) ⊎ ((i ≡ b) × (j ≡ a))
+pub pair_by : (a b i j : ℕ) → is_pair a b i j ≡ true → ((i ≡ a) × (j ≡ b)) ⊎ ((i ≡ b) × (j ≡ a))
 pair_by a b i j h = elim (or_cases (i == a && j == b) (i == b && j == a) h) [
   | inl e ↦ let k = and_parts (i == a) (j == b) e in inl (eqb-true i a k.0, eqb-true j b k.1)
   | inr e ↦ let k = and_parts (i == b) (j == a) e in inr (eqb-true i b k.0, eqb-true j a k.1)
@@ -204,10 +204,10 @@ room_for n words a b p q room differ =
     let enough : pairs_below n ≤ 64 * words = leb-true (pairs_below n) (64 * words) room in
     omega arith
 
-sorts_in : (vs : List Variable) (x : ℕ) → x < length (map (λ (w : Variable). w.sort) vs) → x < length (labels_of vs)
+pub sorts_in : (vs : List Variable) (x : ℕ) → x < length (map (λ (w : Variable). w.sort) vs) → x < length (labels_of vs)
 sorts_in vs x h = omega (arith, length-map vs (λ (w : Variable). w.sort), length-map vs (λ (w : Variable). w.label))
 
-root_of : (labels words : List ℕ) (x a : ℕ) → IsProper labels words → x < length labels → a ≡ slice_index labels x → (a < length labels) × (slice_index labels a ≡ a)
+pub root_of : (labels words : List ℕ) (x a : ℕ) → IsProper labels words → x < length labels → a ≡ slice_index labels x → (a < length labels) × (slice_index labels a ≡ a)
 root_of labels words x a h p e = let low : slice_index labels x ≤ x = h.least x p in (omega arith, rw e (h.root x p))
 
 differ_parts : (vs : List Variable) (words new : List ℕ) (x y a b : ℕ) → IsProper (labels_of vs) words → x < length (map (λ (w : Variable). w.sort) vs) → y < length (map (λ (w : Variable). w.sort) vs)
@@ -320,7 +320,7 @@ pub equal_already : (vs : List Variable) (words : List ℕ) (x y : ℕ) → x < 
 equal_already vs words x y p q e v = ((λ s. (s, s.same x p ∙ ap v e ∙ sym (s.same y q))), (λ s. s.0))
 
 -- more words with no bit set
-marks_same : (words new : List ℕ) → ((k : ℕ) → is_set new k ≡ is_set words k) → (x y : ℕ) → are_marked new x y ≡ are_marked words x y
+pub marks_same : (words new : List ℕ) → ((k : ℕ) → is_set new k ≡ is_set words k) → (x y : ℕ) → are_marked new x y ≡ are_marked words x y
 unfolding are_marked
 marks_same words new h x y = ap (λ b. not (x == y) && b) (h (place x y))
 

@@ -2,3 +2,4 @@ pub mod Joining
 pub mod Sharing
 pub mod Triangle
 pub mod Valuations
+pub mod Sorting

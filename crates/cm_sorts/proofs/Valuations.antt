@@ -16,7 +16,7 @@ pub record Meets (labels words : List ℕ) (v : ℕ → ℕ) : Type 0 where
   pub same : (x : ℕ) → x < length labels → v x ≡ v (slice_index labels x)
   pub apart : (x y : ℕ) → x < length labels → y < length labels → are_marked words x y ≡ true → v x ≢ v y
 
-row_at : (n : ℕ) (words : List ℕ) (x y : ℕ) → x < n → y < x → slice_index_or (slice_index_or (rows_of n words) x []) y false ≡ are_marked words x y
+pub row_at : (n : ℕ) (words : List ℕ) (x y : ℕ) → x < n → y < x → slice_index_or (slice_index_or (rows_of n words) x []) y false ≡ are_marked words x y
 row_at n words x y h k =
     ap (λ row. slice_index_or row y false) (get_or-map-range_with_len (λ i. map (are_marked words i) (range_with_len 0 i)) 0 n x x [] h (omega arith))
     ∙ get_or-map-range_with_len (are_marked words x) 0 x y y false k (omega arith)

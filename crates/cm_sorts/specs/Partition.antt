@@ -22,6 +22,12 @@ pub record Satisfies (p : Partition) (v : ℕ → ℕ) : Type 0 where
   pub same : (x : ℕ) → x < length p.sorts → v x ≡ v (label p x)
   pub apart : (x y : ℕ) → x < length p.sorts → y < x → IsTrue (are_apart p x y) → v x ≢ v y
 
+-- neither a class nor a difference goes over two sorts
+pub record KeepsToSorts (p : Partition) : Type 0 where
+  pub classes : (x : ℕ) → x < length p.sorts → slice_index p.sorts (label p x) ≡ slice_index p.sorts x
+  pub apart : (x y : ℕ) → x < length p.sorts → y < x → IsTrue (are_apart p x y)
+      → slice_index p.sorts x ≡ slice_index p.sorts y
+
 abbrev pub IsSatisfiable : Partition → Type 0
 IsSatisfiable p = (v : ℕ → ℕ) × Satisfies p v
 

@@ -1,7 +1,7 @@
 //! Classes of equal elements, and which of them differ.
 
-ghost use Rattle.std.specs.Prelude.{◌≡◌, ◌≢◌, ◌<◌, ◌≤◌, ◌↔◌, ◌++◌, ◌∷◌, [], ℕ, true, IsTrue, IfOk, OnOk, length, slice_index};
-ghost use Rattle.cm_sorts.specs.Partition.{Satisfies, IsSatisfiable, Allows, Keeps, Implies};
+ghost use Rattle.std.specs.Prelude.{◌≡◌, ◌≢◌, ◌<◌, ◌≤◌, ◌↔◌, ◌++◌, ◌∷◌, [], ℕ, true, IsTrue, IfOk, OnOk, length, slice_get, slice_index};
+ghost use Rattle.cm_sorts.specs.Partition.{Satisfies, IsSatisfiable, KeepsToSorts, Allows, Keeps, Implies};
 
 use crate::pairs;
 use crate::words::{self, Variable};
@@ -20,13 +20,14 @@ pub struct Classes {
 
 impl Model for Classes {
     ghost use Rattle.cm_sorts.specs.Partition.{Partition};
-    ghost use Rattle.cm_sorts.specs.Words.{partition_of, labels_of, IsProper};
+    ghost use Rattle.cm_sorts.specs.Words.{partition_of, labels_of, sorts_of, IsKept};
 
     ghost Value = { Partition };
 
     ghost view = { λ c. partition_of c.variables.items c.words.items };
 
-    ghost invariant = { λ c. IsProper (labels_of c.variables.items) c.words.items };
+    ghost invariant = { λ c.
+        IsKept (sorts_of c.variables.items) (labels_of c.variables.items) c.words.items };
 }
 
 impl Classes {
@@ -127,9 +128,17 @@ impl Classes {
         pairs::mark(&mut self.words, a, b);
     }
 
-    /// Tells a proof that some valuation satisfies the classes.
+    /// The sort of a variable, where it is there.
+    pub fn sort(&self, x: SortVar) -> Option<u16>
+        ensures sort { result ≡ slice_get self.now.sorts x.0 }
+    {
+        words::sort_at(self.variables.as_slice(), x.0)
+    }
+
+    /// Tells a proof that some valuation satisfies the classes, and that they keep to sorts.
     pub fn has_valuation(&self)
         ensures satisfiable { IsSatisfiable self.now }
+        ensures one_sort { KeepsToSorts self.now }
     {
         let _ = self.variables.len();
     }

@@ -1,8 +1,8 @@
 //! Bits in words.
 
-ghost use Rattle.std.specs.Prelude.{◌≡◌, ◌<◌, ◌≤◌, ◌^◌, ◌+◌, ◌*◌, ◌-◌, ◌/◌, ◌&&◌, ◌||◌, ◌++◌, ℕ, false, length, map, slice_index, replicate, OnOk};
+ghost use Rattle.std.specs.Prelude.{◌≡◌, ◌<◌, ◌≤◌, ◌^◌, ◌+◌, ◌*◌, ◌-◌, ◌/◌, ◌&&◌, ◌||◌, ◌++◌, ℕ, false, length, map, slice_get, slice_index, replicate, OnOk};
 ghost use Rattle.cm_sorts.specs.Pairs.{are_marked, is_pair, is_set, pairs_below};
-ghost use Rattle.cm_sorts.specs.Words.{labels_of, is_shared, relabelled};
+ghost use Rattle.cm_sorts.specs.Words.{labels_of, sorts_of, is_shared, relabelled};
 
 use crate::pairs;
 use cm_model::NoMemory;
@@ -21,6 +21,16 @@ pub fn label_at(variables: &[Variable], x: u64) -> u64
     ensures small { result < 2 ^ 32 }
 {
     u64::from(variables[x as usize].label)
+}
+
+/// The sort of variable `x`, where it is there.
+pub fn sort_at(variables: &[Variable], x: u64) -> Option<u16>
+    ensures { result ≡ slice_get (sorts_of variables.now) x }
+{
+    match variables.get(x as usize) {
+        Some(variable) => Some(variable.sort),
+        None => None,
+    }
 }
 
 /// Gives the variables of one label another.

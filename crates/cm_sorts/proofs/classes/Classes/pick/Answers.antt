@@ -10,4 +10,4 @@ pub returns-clause-least : goal.returns-clause-least
 returns-clause-least c =
     let xs = rw (← c.self.view_is) at c.requires in
     rw (c.label_at.ensures.value, c.as_slice.ensures.value, ← c.self.view_is)
-    (λ y. pick_least c.self.inside.variables.items c.self.inside.words.items c.self.invariant c.args.x.0 y xs)
+    (λ y. pick_least c.self.inside.variables.items c.self.inside.words.items c.self.invariant.proper c.args.x.0 y xs)

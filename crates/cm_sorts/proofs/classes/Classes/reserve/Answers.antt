@@ -2,12 +2,20 @@ use Rattle.std.proofs.Common.{◌≡◌, ◌≤◌, ◌*◌, length, ap, arith}
 use Rattle.std.proofs.lemmas.Result.{on_ok_weaker}
 use Rattle.cm_sorts.specs.Partition.{Partition}
 use Rattle.cm_sorts.specs.Pairs.{pairs_below}
-use Rattle.cm_sorts.specs.Words.{labels_of}
+use Rattle.cm_sorts.specs.Words.{labels_of, sorts_of}
 use Rattle.cm_sorts.proofs.Joining.{roomy, same_proper}
+use Rattle.cm_sorts.proofs.Sorting.{same_sorted}
 use Rattle.cm_sorts.proofs.classes.Classes.reserve.Goals as goal
 
 pub invariant_of-self : goal.invariant_of-self
-invariant_of-self c = same_proper (labels_of c.self.inside.variables.items) c.self.inside.words.items c.make_room.new.words.items c.make_room.ensures.kept c.self.invariant
+invariant_of-self c =
+    let vs = c.self.inside.variables.items in
+    let words = c.self.inside.words.items in
+    let new = c.make_room.new.words.items in
+    record {
+      proper = same_proper (labels_of vs) words new c.make_room.ensures.kept c.self.invariant.proper;
+      sorted = same_sorted (sorts_of vs) (labels_of vs) words new c.make_room.ensures.kept c.self.invariant.sorted;
+    }
 
 pub returns-clause-room : goal.returns-clause-room
 returns-clause-room c =
