@@ -176,3 +176,31 @@ fn random_additions_as_a_search_finds_them(rt: HostRuntime) -> Result<(), Fail> 
     }
     Ok(())
 }
+
+const MANY: u64 = 320;
+
+/// Puts each variable below the next one.
+fn ascend(rt: &impl Abort, bounds: &mut Bounds)
+    requires { length bounds.old ≡ 321 }
+    ensures { length bounds.new ≡ 321 }
+{
+    'variables: for x in 1..MANY {
+        let order = bounds.may(IntVar(x), 0, IntVar(x + 1));
+        assert!(rt; order.lt);
+        bounds.add_lt(IntVar(x), 0, IntVar(x + 1));
+    }
+}
+
+#[test]
+fn three_hundred_and_twenty_integers_in_a_row(rt: HostRuntime) -> Result<(), Fail> {
+    let mut bounds = Bounds::new(rt.alloc())?;
+    'fresh: for _ in 0..MANY {
+        bounds.fresh(1, 1000)?;
+    }
+    ascend(&rt, &mut bounds);
+    assert_eq!(rt; bounds.least(IntVar(1)), 1);
+    assert_eq!(rt; bounds.least(IntVar(MANY)), 320);
+    assert_eq!(rt; bounds.may(IntVar(1), 681, ZERO), mask(false, false, true));
+    assert_eq!(rt; bounds.may(IntVar(1), -681, ZERO), mask(true, true, false));
+    Ok(())
+}
