@@ -19,7 +19,8 @@ pub at_item : {A : Type 0} (xs : List A) (i : ℕ) (d : A) → i < length xs →
 at_item xs i d lt e = slice_get-get_or xs i d lt ∙ ap Some (sym e)
 
 -- the first items and the next one
-pub take_more : {A : Type 0} (xs : List A) (i : ℕ) (d : A) → slice_get xs i ≡ Some d → take (i + 1) xs ≡ take i xs ++ d ∷ []
+pub take_more : {A : Type 0} (xs : List A) (i : ℕ) (d : A) → slice_get xs i ≡ Some d
+    → take (i + 1) xs ≡ take i xs ++ d ∷ []
 take_more xs i d at = subst (λ k. take k xs ≡ take i xs ++ d ∷ []) (next i) (more xs i d at)
   where
     next : (i : ℕ) → suc i ≡ i + 1
@@ -53,11 +54,15 @@ same_starts old s = record {
   kept = λ e. ((λ k. record { same = k.same; apart = k.apart }), (λ k. record { same = k.same; apart = k.apart }));
 }
 
-pub same_more : (old now new : Partition) (ds : List ElementPart) (i : ℕ) (d : ElementPart) → slice_get ds i ≡ Some d → SameElements old now (take i ds)
-    → new.sorts ≡ now.sorts ++ d.sort ∷ [] → ((e : ℕ → ℕ) → sorts.Satisfies new e ↔ sorts.Satisfies now e) → SameElements old new (take (i + 1) ds)
+pub same_more : (old now new : Partition) (ds : List ElementPart) (i : ℕ) (d : ElementPart) → slice_get ds i ≡ Some d
+    → SameElements old now (take i ds)
+    → new.sorts ≡ now.sorts ++ d.sort ∷ [] → ((e : ℕ → ℕ) → sorts.Satisfies new e ↔ sorts.Satisfies now e)
+    → SameElements old new (take (i + 1) ds)
 same_more old now new ds i d at s e k = record {
-  sorts_more = e ∙ ap (λ xs. xs ++ d.sort ∷ []) s.sorts_more ∙ append_assoc old.sorts (sorts_in (take i ds)) (d.sort ∷ [])
-      ∙ ap (λ xs. old.sorts ++ xs) (sym (map-append (λ (c : ElementPart). c.sort) (take i ds) (d ∷ [])) ∙ ap sorts_in (sym (take_more ds i d at)));
+  sorts_more = e ∙ ap (λ xs. xs ++ d.sort ∷ []) s.sorts_more
+      ∙ append_assoc old.sorts (sorts_in (take i ds)) (d.sort ∷ [])
+      ∙ ap (λ xs. old.sorts ++ xs) (sym (map-append (λ (c : ElementPart). c.sort) (take i ds) (d ∷ []))
+      ∙ ap sorts_in (sym (take_more ds i d at)));
   kept = λ v. ((λ a. (s.kept v).0 ((k v).0 a)), (λ a. (k v).1 ((s.kept v).1 a)));
 }
 
@@ -68,13 +73,16 @@ pub record MoreNumbers (old new : Differences) (ds : List NumberPart) : Type 0 w
 pub numbers_start : (old : Differences) → MoreNumbers old old []
 numbers_start old = record { count = omega arith; kept = λ n. ((λ s. (s, tt)), (λ s. s.0)) }
 
-pub numbers_more : (old now new : Differences) (ds : List NumberPart) (i : ℕ) (d : NumberPart) → slice_get ds i ≡ Some d → MoreNumbers old now (take i ds)
-    → length new ≡ length now + 1 → order.Keeps now new (λ n. LiesIn n (length now) d) → MoreNumbers old new (take (i + 1) ds)
+pub numbers_more : (old now new : Differences) (ds : List NumberPart) (i : ℕ) (d : NumberPart)
+    → slice_get ds i ≡ Some d → MoreNumbers old now (take i ds)
+    → length new ≡ length now + 1 → order.Keeps now new (λ n. LiesIn n (length now) d)
+    → MoreNumbers old new (take (i + 1) ds)
 numbers_more old now new ds i d at s e k = rw (take_more ds i d at) (record {
   count = omega (arith, s.count, length-append (take i ds) (d ∷ []));
   kept = λ n.
       let both = each_append (LiesIn n) (length old) (take i ds) (d ∷ []) in (
-        (λ a. let b = (k n).0 a in let c = (s.kept n).0 b.0 in (c.0, both.1 (c.1, (subst (λ x. LiesIn n x d) s.count b.1, tt)))),
+        (λ a. let b = (k n).0 a in let c = (s.kept n).0 b.0 in
+            (c.0, both.1 (c.1, (subst (λ x. LiesIn n x d) s.count b.1, tt)))),
         (λ a. let b = both.0 a.1 in (k n).1 ((s.kept n).1 (a.0, b.0), subst (λ x. LiesIn n x d) (sym s.count) b.1.0)),
       );
 })

@@ -39,10 +39,17 @@ agree_then c u v w a b = record {
 }
 
 pub agree_same : (c : Counts) (v : Valuation) → Agree c v v
-agree_same c v = record { elements = λ x lt. refl; numbers = λ x lt. refl; tags = λ x lt. refl; present = λ x lt. refl; payloads = λ x lt. refl }
+agree_same c v = record {
+  elements = λ x lt. refl;
+  numbers = λ x lt. refl;
+  tags = λ x lt. refl;
+  present = λ x lt. refl;
+  payloads = λ x lt. refl;
+}
 
 -- what is given to these variables and then to those
-pub gives_both : (c : Counts) (u w : Variables) (v : Valuation) → Gives c (both u w) v ↔ (Gives c u v × Gives (counted c u) w v)
+pub gives_both : (c : Counts) (u w : Variables) (v : Valuation) → Gives c (both u w) v
+    ↔ (Gives c u v × Gives (counted c u) w v)
 gives_both c u w v =
     let n = each_append (IsWithin v) c.numbers u.numbers w.numbers in
     let t = each_append (IsVariant v) c.tags u.tags w.tags in
@@ -52,5 +59,9 @@ gives_both c u w v =
           let b = t.0 g.tags in
           let d = o.0 g.options in
           (record { numbers = a.0; tags = b.0; options = d.0 }, record { numbers = a.1; tags = b.1; options = d.1 })),
-      (λ g. record { numbers = n.1 (g.0.numbers, g.1.numbers); tags = t.1 (g.0.tags, g.1.tags); options = o.1 (g.0.options, g.1.options) }),
+      (λ g. record {
+        numbers = n.1 (g.0.numbers, g.1.numbers);
+        tags = t.1 (g.0.tags, g.1.tags);
+        options = o.1 (g.0.options, g.1.options);
+      }),
     )

@@ -14,7 +14,8 @@ module _ (t : Tables) where
   Formed (Ty-F.Sort s) x = (n : ℕ) × (x ≡ value.Elem n)
   Formed (Ty-F.Int i) x = (n : ℤ) × (x ≡ value.Int n) × IsTrue (is_within (slice_get t.ints i) n)
   Formed (Ty-F.Enum e) x = (n : ℕ) × (x ≡ value.Tag n) × IsTrue (has_variant (slice_get t.enums e) n)
-  Formed (Ty-F.Rec r) x = (vs : List Value) × (x ≡ value.Rec vs) × IsTrue (has_fields (slice_get t.records r) (map (member_of t) vs))
+  Formed (Ty-F.Rec r) x = (vs : List Value) × (x ≡ value.Rec vs)
+      × IsTrue (has_fields (slice_get t.records r) (map (member_of t) vs))
   Formed (Ty-F.Option u) x = (x ≡ value.None) ⊎ ((y : Value) × (x ≡ value.Some y) × IsValueOf t u y)
 
   abbrev Said : Value → Type 0

@@ -39,18 +39,25 @@ module _ (e : ℕ → ℕ) (n : ℕ → ℤ) (t p : ℕ → ℕ) where
 
   kept_below : (k : ℕ) (us : List Term) (f : ℕ → Value) (o : ℕ) → o < k → filled k us f o ≡ f o
   kept_below k [] f o lt = refl
-  kept_below k (u ∷ us) f o lt = kept_below (k + 1) us (put f k (under f u)) o (omega arith) ∙ put_elsewhere f k (under f u) o lt
+  kept_below k (u ∷ us) f o lt = kept_below (k + 1) us (put f k (under f u)) o (omega arith)
+      ∙ put_elsewhere f k (under f u) o lt
 
-  each_filled : (k : ℕ) (us : List Term) (f : ℕ → Value) → EachFrom IsEarlier k us → EachFrom (λ o u. filled k us f o ≡ under (filled k us f) u) k us
+  each_filled : (k : ℕ) (us : List Term) (f : ℕ → Value) → EachFrom IsEarlier k us
+      → EachFrom (λ o u. filled k us f o ≡ under (filled k us f) u) k us
   each_filled k [] f h = tt
   each_filled k (u ∷ us) f h =
       let g : ℕ → Value = filled (k + 1) us (put f k (under f u)) in
-      let here : g k ≡ under f u = kept_below (k + 1) us (put f k (under f u)) k (omega arith) ∙ put_here f k (under f u) in (
-        here ∙ h.0 e n t p f g (λ o lt. sym (kept_below (k + 1) us (put f k (under f u)) o (omega arith) ∙ put_elsewhere f k (under f u) o lt)),
+      let here : g k ≡ under f u = kept_below (k + 1) us (put f k (under f u)) k (omega arith)
+      ∙ put_here f k (under f u) in (
+        here ∙ h.0 e n t p f g (λ o lt. sym (kept_below (k + 1) us (put f k (under f u)) o (omega arith)
+            ∙ put_elsewhere f k (under f u) o lt)),
         each_filled (k + 1) us (put f k (under f u)) h.1,
       )
 
   pub ground : (us : List Term) → AreEarlier us → (f : ℕ → Value) × Holds us (valuation e n t p f)
   ground us h =
-      let f : ℕ → Value = filled 0 us (λ o. value.None) in
-      (f, (each_there (λ o u. f o ≡ under f u) us).1 (each_filled 0 us (λ o. value.None) ((each_there IsEarlier us).0 h)))
+      let f : ℕ → Value = filled 0 us (λ o. value.None) in (
+        f,
+        (each_there (λ o u. f o ≡ under f u) us).1
+            (each_filled 0 us (λ o. value.None) ((each_there IsEarlier us).0 h)),
+      )

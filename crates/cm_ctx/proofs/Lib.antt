@@ -21,3 +21,5 @@ pub mod Good
 pub mod Rows
 pub mod Examples
 pub mod Names
+pub mod Owning
+pub mod Leading

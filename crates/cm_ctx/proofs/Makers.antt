@@ -21,7 +21,8 @@ module _ (Q : Ty → Type 0) where
   abbrev Known : Type 0
   Known = (u : Ty) × Q u
 
-  module _ (sort : (s : ℕ) → Q (ty.Sort s)) (int : (i : ℕ) → Q (ty.Int i)) (enum : (e : ℕ) → Q (ty.Enum e)) (rec : (r : ℕ) → Q (ty.Rec r)) (option : (u : Ty) → Q u → Q (ty.Option u)) where
+  module _ (sort : (s : ℕ) → Q (ty.Sort s)) (int : (i : ℕ) → Q (ty.Int i)) (enum : (e : ℕ) → Q (ty.Enum e))
+      (rec : (r : ℕ) → Q (ty.Rec r)) (option : (u : Ty) → Q u → Q (ty.Option u)) where
     layer : (y : Ty-F Known) → Q (roll-Ty (map-Ty Known Ty (λ k. k.0) y))
     layer (Ty-F.Sort s) = subst Q (sym (rolls-Sort s)) (sort s)
     layer (Ty-F.Int i) = subst Q (sym (rolls-Int i)) (int i)
@@ -33,7 +34,8 @@ module _ (Q : Ty → Type 0) where
     pub ty_ind : (u : Ty) → Q u
     ty_ind = ind-Ty Q (λ x y is. subst (λ z. Q (roll-Ty z)) is (layer y))
 
-get_taken : {X : Type 0} (xs : List X) (n i : ℕ) (x : X) → i < n → slice_get xs i ≡ Some x → slice_get (take n xs) i ≡ Some x
+get_taken : {X : Type 0} (xs : List X) (n i : ℕ) (x : X) → i < n → slice_get xs i ≡ Some x
+    → slice_get (take n xs) i ≡ Some x
 get_taken xs zero i x lt at = absurd (omega arith)
 get_taken [] (suc n) i x lt at = at
 get_taken (y ∷ xs) (suc n) zero x lt at = at
@@ -61,7 +63,8 @@ module _ (ints : List IntDecl) (enums : List EnumDecl) (rs : List RecDecl) where
 
   -- a record's maker among the first ones is that of its fields, whose records are before it
   maker_among : (n r : ℕ) (d : RecDecl) → r < n → slice_get rs r ≡ Some d
-      → or_else (record_made []) (slice_get (record_makers ints enums (take n rs)) r) ≡ record_made (map (λ (p : Part). made_before r p.ty) d.fields)
+      → or_else (record_made []) (slice_get (record_makers ints enums (take n rs)) r) ≡ record_made
+      (map (λ (p : Part). made_before r p.ty) d.fields)
   unfolding record_makers
   maker_among n r d lt at =
       ap (or_else (record_made [])) (value_at (record_maker ints enums) (take n rs) r d (get_taken rs n r d lt at))
@@ -73,7 +76,8 @@ module _ (ints : List IntDecl) (enums : List EnumDecl) (rs : List RecDecl) where
       (int : (n i : ℕ) → P n (ty.Int i) (number_made (slice_get ints i)))
       (enum : (n e : ℕ) → P n (ty.Enum e) (tag_made (slice_get enums e)))
       (option : (n : ℕ) (u : Ty) (m : Maker) → P n u m → P n (ty.Option u) (option_made m))
-      (record_there : (n r : ℕ) (d : RecDecl) → r < n → slice_get rs r ≡ Some d → (f : Ty → Maker) → ((u : Ty) → P r u (f u)) → P n (ty.Rec r) (record_made (map (λ (p : Part). f p.ty) d.fields)))
+      (record_there : (n r : ℕ) (d : RecDecl) → r < n → slice_get rs r ≡ Some d → (f : Ty → Maker)
+      → ((u : Ty) → P r u (f u)) → P n (ty.Rec r) (record_made (map (λ (p : Part). f p.ty) d.fields)))
       (no_record : (n r : ℕ) → n ≤ r → P n (ty.Rec r) (record_made [])) where
     abbrev step : ℕ → Ty-F Maker → Maker
     step n = make_step ints enums (record_makers ints enums (take n rs))
@@ -81,12 +85,15 @@ module _ (ints : List IntDecl) (enums : List EnumDecl) (rs : List RecDecl) where
     abbrev All : ℕ → Type 0
     All n = (u : Ty) → P n u (made_before n u)
 
-    rec_case : (n : ℕ) → n ≤ length rs → ((r : ℕ) → r < n → All r) → (r : ℕ) → P n (ty.Rec r) (or_else (record_made []) (slice_get (record_makers ints enums (take n rs)) r))
+    rec_case : (n : ℕ) → n ≤ length rs → ((r : ℕ) → r < n → All r) → (r : ℕ)
+        → P n (ty.Rec r) (or_else (record_made []) (slice_get (record_makers ints enums (take n rs)) r))
     rec_case n within earlier r = elim (cases_lt r n) [
       | inl lt ↦
           let d = there rs r (omega arith) in
-          subst (P n (ty.Rec r)) (sym (maker_among n r d.0 lt d.1)) (record_there n r d.0 lt d.1 (made_before r) (earlier r lt))
-      | inr le ↦ subst (P n (ty.Rec r)) (sym (no_maker ints enums (take n rs) r (let few = few_taken rs n in omega arith))) (no_record n r le)
+          subst (P n (ty.Rec r)) (sym (maker_among n r d.0 lt d.1))
+          (record_there n r d.0 lt d.1 (made_before r) (earlier r lt))
+      | inr le ↦ subst (P n (ty.Rec r)) (sym (no_maker ints enums (take n rs) r
+          (let few = few_taken rs n in omega arith))) (no_record n r le)
     ]
 
     one_more : (n : ℕ) → n ≤ length rs → ((r : ℕ) → r < n → All r) → All n
@@ -106,4 +113,5 @@ module _ (ints : List IntDecl) (enums : List EnumDecl) (rs : List RecDecl) where
     whole (x ∷ xs) = ap (λ ys. x ∷ ys) (whole xs)
 
     pub maker_ind : (u : Ty) → P (length rs) u (made_in ints enums (record_makers ints enums rs) u)
-    maker_ind u = subst (λ qs. P (length rs) u (made_in ints enums (record_makers ints enums qs) u)) (whole rs) (up_to (length rs) (length rs) (omega arith) (omega arith) u)
+    maker_ind u = subst (λ qs. P (length rs) u (made_in ints enums (record_makers ints enums qs) u)) (whole rs)
+        (up_to (length rs) (length rs) (omega arith) (omega arith) u)

@@ -57,7 +57,12 @@ pub three_bits : (a b c : Bool) (m : ℕ) → m ≡ weighed a b c → (i : ℕ) 
 three_bits a b c m e zero = rw e (one_bit a _ (bit_0 a b c))
 three_bits a b c m e (suc zero) = rw e (one_bit b _ (bit_1 a b c))
 three_bits a b c m e (suc (suc zero)) = rw e (one_bit c _ (bit_2 a b c))
-three_bits a b c m e (suc (suc (suc i))) = rw e ((λ h. absurd (let none = bit_at_above (weighed a b c) 3 (suc (suc (suc i))) (light a b c) (omega arith) in let same = sym h ∙ none in omega arith)), (λ h. absurd (search rules)))
+three_bits a b c m e (suc (suc (suc i))) = rw e (
+  (λ h. absurd
+      (let none = bit_at_above (weighed a b c) 3 (suc (suc (suc i))) (light a b c) (omega arith) in let same = sym h
+      ∙ none in omega arith)),
+  (λ h. absurd (search rules)),
+)
 
 fits : (k : ℕ) → k < 64 → 1 * 2 ^ k % 18446744073709551616 ≡ 2 ^ k
 fits k h = let small : 2 ^ k < 2 ^ 64 = pow-lt h in grind (arith, small)

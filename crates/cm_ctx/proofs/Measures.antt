@@ -12,7 +12,8 @@ abbrev pub load : List RecDecl → ℕ
 load [] = 0
 load (d ∷ ds) = (2 + 2 * sizes d.fields) + load ds
 
-pub load_at : (ds : List RecDecl) (r : ℕ) (e : RecDecl) → r < length ds → load (take r ds) + (2 + 2 * sizes (get_or ds r e).fields) ≤ load ds
+pub load_at : (ds : List RecDecl) (r : ℕ) (e : RecDecl) → r < length ds
+    → load (take r ds) + (2 + 2 * sizes (get_or ds r e).fields) ≤ load ds
 load_at [] r e h = absurd (omega arith)
 load_at (d ∷ ds) zero e h = omega arith
 load_at (d ∷ ds) (suc r) e h = let rest = load_at ds r e (omega arith) in omega arith

@@ -70,7 +70,8 @@ sound_element s = record {
 
 pub sound_number : (d : Option IntDecl) → Sound (number_made d)
 sound_number d = record {
-  sees = λ p v w a. value_num v _ ∙ ap (λ n. value.Int (n +ℤ pos 0)) (a.numbers p.from.numbers (omega arith)) ∙ sym (value_num w _);
+  sees = λ p v w a. value_num v _ ∙ ap (λ n. value.Int (n +ℤ pos 0)) (a.numbers p.from.numbers (omega arith))
+      ∙ sym (value_num w _);
   grounded = λ p. record { payloads = tt };
 }
 
@@ -81,11 +82,15 @@ sound_tag d = record {
 }
 
 -- these variables behind those
-grounded_both : (from : Counts) (u w : Variables) → Grounded from u → Grounded (counted from u) w → Grounded from (both u w)
+grounded_both : (from : Counts) (u w : Variables) → Grounded from u → Grounded (counted from u) w
+    → Grounded from (both u w)
 grounded_both from u w g h = record {
   payloads = (each_append (SeesBelow (counted from (both u w))) from.options u.options w.options).1 (
-    each_so (SeesBelow (counted from u)) (SeesBelow (counted from (both u w))) from.options u.options (λ o d low high s. subst (λ c. SeesBelow c o d) (sym (counted_both from u w)) (sees_more (below o (counted from u)) (below o (counted (counted from u) w)) d.payload (wider o) s)) g.payloads,
-    subst (λ c. EachFrom (SeesBelow c) (from.options + length u.options) w.options) (sym (counted_both from u w)) h.payloads,
+    each_so (SeesBelow (counted from u)) (SeesBelow (counted from (both u w))) from.options u.options
+        (λ o d low high s. subst (λ c. SeesBelow c o d) (sym (counted_both from u w))
+        (sees_more (below o (counted from u)) (below o (counted (counted from u) w)) d.payload (wider o) s)) g.payloads,
+    subst (λ c. EachFrom (SeesBelow c) (from.options + length u.options) w.options)
+        (sym (counted_both from u w)) h.payloads,
   );
 }
   where
@@ -105,7 +110,8 @@ sound_option m s = record { sees = sees; grounded = grounded }
     sees p v w a =
         let V = (m (into p step.Payload)).variables in
         let o = p.from.options + length V.options in
-        let b : Agree (counted (counted p.from V) (last p)) v w = subst (λ c. Agree c v w) (counted_both p.from V (last p)) a in
+        let b : Agree (counted (counted p.from V) (last p)) v w =
+        subst (λ c. Agree c v w) (counted_both p.from V (last p)) a in
         value_either v _
         ∙ ap (λ n. if n == 1 then value.Some (v.payload o) else value.None) (b.present o (omega arith))
         ∙ ap (λ y. if w.present o == 1 then value.Some y else value.None) (b.payloads o (omega arith))
@@ -117,8 +123,10 @@ sound_option m s = record { sees = sees; grounded = grounded }
         let t = (m (into p step.Payload)).term in
         grounded_both p.from V (last p) (s.grounded (into p step.Payload)) (record {
           payloads = (
-            sees_more (counted p.from V) (below (p.from.options + length V.options) (counted (counted p.from V) (last p))) t
-                (record { elements = omega arith; numbers = omega arith; tags = omega arith; options = omega arith }) (s.sees (into p step.Payload)),
+            sees_more (counted p.from V) (below (p.from.options + length V.options)
+                (counted (counted p.from V) (last p))) t
+                (record { elements = omega arith; numbers = omega arith; tags = omega arith; options = omega arith })
+                (s.sees (into p step.Payload)),
             tt,
           );
         })
@@ -135,16 +143,22 @@ sound_fields i (m ∷ ms) s = record {
       let V = (m (into p (step.Field i))).variables in
       let R = fields_made (i + 1) ms (behind p V) in
       let rest = (sound_fields (i + 1) ms s.1).see (behind p V) in
-      subst (λ c. AllSee c ((m (into p (step.Field i))).term ∷ R.terms)) (sym (counted_both p.from V R.variables))
-      (sees_more (counted p.from V) (counted (counted p.from V) R.variables) (m (into p (step.Field i))).term (at_most (counted p.from V) R.variables) (s.0.sees (into p (step.Field i))), rest);
+      subst (λ c. AllSee c ((m (into p (step.Field i))).term ∷ R.terms)) (sym (counted_both p.from V R.variables)) (
+        sees_more (counted p.from V) (counted (counted p.from V) R.variables) (m (into p (step.Field i))).term
+            (at_most (counted p.from V) R.variables) (s.0.sees (into p (step.Field i))),
+        rest,
+      );
   grounded = λ p.
       let V = (m (into p (step.Field i))).variables in
-      grounded_both p.from V (fields_made (i + 1) ms (behind p V)).variables (s.0.grounded (into p (step.Field i))) ((sound_fields (i + 1) ms s.1).grounded (behind p V));
+      grounded_both p.from V (fields_made (i + 1) ms (behind p V)).variables (s.0.grounded (into p (step.Field i)))
+      ((sound_fields (i + 1) ms s.1).grounded (behind p V));
 }
 
-pub values_seen : (c : Counts) (ts : List Term) → AllSee c ts → (v w : Valuation) → Agree c v w → map (value_of v) ts ≡ map (value_of w) ts
+pub values_seen : (c : Counts) (ts : List Term) → AllSee c ts → (v w : Valuation) → Agree c v w
+    → map (value_of v) ts ≡ map (value_of w) ts
 values_seen c [] s v w a = refl
-values_seen c (t ∷ ts) s v w a = ap (λ x. x ∷ map (value_of v) ts) (s.0 v w a) ∙ ap (λ xs. value_of w t ∷ xs) (values_seen c ts s.1 v w a)
+values_seen c (t ∷ ts) s v w a = ap (λ x. x ∷ map (value_of v) ts) (s.0 v w a)
+    ∙ ap (λ xs. value_of w t ∷ xs) (values_seen c ts s.1 v w a)
 
 pub sound_record : (ms : List Maker) → AllSound ms → Sound (record_made ms)
 sound_record ms s =

@@ -16,7 +16,8 @@ pub no_pieces : (ps : List Piece) → ps ≡ [] → AreEarlier (payloads_of ps)
 no_pieces ps e = subst (λ (qs : List Piece). AreEarlier (payloads_of qs)) (sym e) (λ k u f. absurd (cc))
 
 -- whether there is a spare changes nothing else
-pub other_spare : (n : Counts) (k : Partition) (b : Differences) (ts os : List Choice) (ps : List Piece) (s : Bool) → IsProper n (context k b ts os ps) → IsProper n (context (record k { spare = s }) b ts os ps)
+pub other_spare : (n : Counts) (k : Partition) (b : Differences) (ts os : List Choice) (ps : List Piece) (s : Bool)
+    → IsProper n (context k b ts os ps) → IsProper n (context (record k { spare = s }) b ts os ps)
 other_spare n k b ts os ps s h = record {
   counts = h.counts;
   elements = (h.elements.0, record { same = h.elements.1.same; apart = h.elements.1.apart });

@@ -9,3 +9,4 @@ pub mod Asking
 pub mod Proper
 pub mod Knowing
 pub mod Naming
+pub mod Belonging

@@ -46,7 +46,8 @@ both v w = variables (v.elements ++ w.elements) (v.numbers ++ w.numbers) (v.tags
 -- how many there are with these variables
 abbrev pub counted : Counts → Variables → Counts
 counted c v =
-    counts (c.elements + length v.elements) (c.numbers + length v.numbers) (c.tags + length v.tags) (c.options + length v.options)
+    counts (c.elements + length v.elements) (c.numbers + length v.numbers) (c.tags + length v.tags)
+    (c.options + length v.options)
 
 -- where a part is made: of which symbol, and how many variables there are before it
 pub record Place : Type 0 where

@@ -1,6 +1,6 @@
 //! Parts with finitely many outcomes, some of which are decided.
 
-ghost use Rattle.std.specs.Prelude.{◌≡◌, ◌<◌, ◌↔◌, ℕ, Some, length, slice_get};
+ghost use Rattle.std.specs.Prelude.{◌≡◌, ◌<◌, ◌↔◌, ℕ, Some, IsTrue, length, slice_get};
 ghost use Rattle.cm_term.specs.Atoms.{tag_under, opt_under};
 ghost use Rattle.cm_ctx.specs.Masks.{Has};
 ghost use Rattle.cm_ctx.specs.Choices.{AreChoices, Allows, Keeps};
@@ -54,6 +54,27 @@ pub fn decide(choices: &mut Vec<Choice>, x: u64, outcome: u8)
         outcomes: choice.outcomes,
         decided: Some(u16::from(outcome)),
     };
+}
+
+/// Whether the enum can be asked for where there are so many variables.
+pub fn is_tag(count: u64, tag: Tag) -> bool
+    ensures { IsTrue result ↔ IsTag count tag }
+{
+    match tag {
+        Tag::Const { ty: _, index } => index < 64,
+        Tag::Var(x) => x.0 < count,
+    }
+}
+
+/// Whether the option can be asked for where there are so many variables.
+pub fn is_opt(count: u64, opt: Opt) -> bool
+    ensures { IsTrue result ↔ IsOpt count opt }
+{
+    match opt {
+        Opt::None => true,
+        Opt::Some => true,
+        Opt::Var(o) => o.0 < count,
+    }
 }
 
 /// The outcomes of the inspection of an enum.

@@ -1,6 +1,6 @@
 //! Contexts.
 
-ghost use Rattle.std.specs.Prelude.{◌≡◌, ◌<◌, ◌+◌, ◌-◌, ◌++◌, ◌∷◌, ◌↔◌, [], ℕ, Some, true, None, IfOk, OnOk, OnErr, length, map, slice_get};
+ghost use Rattle.std.specs.Prelude.{◌≡◌, ◌≢◌, ◌<◌, ◌+◌, ◌-◌, ◌++◌, ◌∷◌, ◌↔◌, [], ℕ, Some, true, None, IsTrue, IfOk, OnOk, OnErr, length, map, slice_get};
 ghost use Rattle.cm_model.specs.Types.{IsType};
 ghost use Rattle.cm_value.specs.Membership.{IsValueOf};
 ghost use Rattle.cm_value.specs.declared.value.Value.{Value};
@@ -9,11 +9,13 @@ ghost use Rattle.cm_term.specs.Questions.{outcome_under};
 ghost use Rattle.cm_term.specs.Terms.{value_of};
 ghost use Rattle.cm_term.specs.declared.term.Term.{Term};
 ghost use Rattle.cm_ctx.specs.declared.choice.Choice.{Choice};
+ghost use Rattle.cm_ctx.specs.declared.choice.Known.TheVariants as known;
 ghost use Rattle.cm_ctx.specs.declared.piece.ElementPart.{ElementPart};
 ghost use Rattle.cm_ctx.specs.declared.piece.Piece.{Piece};
 ghost use Rattle.cm_ctx.specs.Masks.{Has};
 ghost use Rattle.cm_ctx.specs.Making.{Place, counted, first_counts, made_of, piece_of, variables};
 ghost use Rattle.cm_ctx.specs.Giving.{Gives, Agree};
+ghost use Rattle.cm_ctx.specs.Belonging.{OwnsAll, PayloadsHold, Names};
 ghost use Rattle.cm_ctx.specs.Grown.{IsFitting, Grows};
 ghost use Rattle.cm_ctx.specs.Asking.{IsAmong, IsNew, IsPayload, InRow, Owns};
 ghost use Rattle.cm_ctx.specs.Contexts.{Satisfies, Allows, Keeps, Implies, IsSatisfiable, IsQuestion, HasSpare, counts_of, payloads_of};
@@ -108,17 +110,30 @@ impl Ctx {
     /// # Errors
     /// `NoMemory` where memory runs out.
     pub fn reserve(&mut self) -> Result<(), NoMemory>
-        ensures { OnOk result (self.new ≡ record self.old { classes = record self.old.classes { spare = true } }) }
+        ensures room { OnOk result (self.new ≡ record self.old { classes = record self.old.classes { spare = true } }) }
     {
         let reserved = self.classes.reserve();
         self.classes.has_valuation();
         reserved
     }
 
+    /// Whether the question can be asked: its variables are there, and its numbers are small.
+    pub fn is_question(&self, q: &Question) -> bool
+        ensures exact { IsTrue result ↔ IsQuestion self.now q.now }
+    {
+        match *q {
+            Question::Elems(x, y) => elements::are_of_one_sort(&self.classes, x, y),
+            Question::Nums(left, right) => numbers::are_numbers(self.counts.numbers, left, right),
+            Question::Range { of, lo, hi } => numbers::is_range(self.counts.numbers, of, lo, hi),
+            Question::TagOf(tag) => choice::is_tag(self.counts.tags, tag),
+            Question::OptOf(opt) => choice::is_opt(self.counts.options, opt),
+        }
+    }
+
     /// The outcomes that a valuation of the context takes. It takes no memory.
     pub fn outcomes(&self, q: &Question) -> Mask
         requires { IsQuestion self.now q.now }
-        ensures { (i : ℕ) → Has result.0 i ↔ Allows self.now (λ v. outcome_under v q.now ≡ i) }
+        ensures exact { (i : ℕ) → Has result.0 i ↔ Allows self.now (λ v. outcome_under v q.now ≡ i) }
     {
         match *q {
             Question::Elems(x, y) => elements::outcomes(&self.classes, x, y),
@@ -172,18 +187,21 @@ impl Ctx {
         }
     }
 
-    /// What is decided of the option.
+    /// What is decided of the option: whether every valuation of the context has it none, or has it some.
     pub fn opt_of(&self, o: OptVar) -> Known
         requires { o.0 < length self.now.options }
         ensures decided { (c : Choice) → slice_get self.now.options o.0 ≡ Some c → result ≡ known_of c.decided }
+        ensures none { (result ≡ known.None) ↔ Implies self.now (λ v. v.present o.0 ≡ 0) }
+        ensures some { (result ≡ known.Some) ↔ Implies self.now (λ v. v.present o.0 ≢ 0) }
     {
         choice::what_is_known(choice::at(self.options.as_slice(), o.0).decided)
     }
 
-    /// The decided variant of an enum, if it is decided.
+    /// The variant that the enum has under every valuation of the context, if there is one.
     pub fn tag_of(&self, x: TagVar) -> Option<u16>
         requires { x.0 < length self.now.tags }
         ensures decided { (c : Choice) → slice_get self.now.tags x.0 ≡ Some c → result ≡ c.decided }
+        ensures known { (n : ℕ) → (result ≡ Some n) ↔ Implies self.now (λ v. v.tag x.0 ≡ n) }
     {
         choice::at(self.tags.as_slice(), x.0).decided
     }
@@ -200,7 +218,7 @@ impl Ctx {
     /// The same, for those who know which symbol the option is part of.
     pub(crate) fn payload_by(&self, o: OptVar) -> &Term
         requires { (t : Term) × IsPayload self.now.pieces o.0 t }
-        ensures { (t : Term) → IsPayload self.now.pieces o.0 t → result.now ≡ t }
+        ensures term { (t : Term) → IsPayload self.now.pieces o.0 t → result.now ≡ t }
     {
         self.asked.get().payload(o.0)
     }
@@ -208,7 +226,7 @@ impl Ctx {
     /// The term that was made for the symbol of this root. It takes no memory.
     pub fn term_at(&self, root: Root) -> &Term
         requires { (p : Piece) × IsAmong self.now.pieces p × (p.root ≡ root) }
-        ensures { (p : Piece) → IsAmong self.now.pieces p → p.root ≡ root → result.now ≡ p.term }
+        ensures term { (p : Piece) → IsAmong self.now.pieces p → p.root ≡ root → result.now ≡ p.term }
     {
         &self.asked.get().piece_of(root).term
     }
@@ -216,7 +234,7 @@ impl Ctx {
     /// The symbol of an element's variable.
     pub fn sym_of_sort(&self, x: SortVar) -> &Sym
         requires { x.0 < length self.now.classes.sorts }
-        ensures { slice_get (syms_of kind.Element self.now.pieces) x.0 ≡ Some result.now }
+        ensures symbol { slice_get (syms_of kind.Element self.now.pieces) x.0 ≡ Some result.now }
     {
         self.asked.get().sym_of(Kind::Element, x.0)
     }
@@ -225,7 +243,7 @@ impl Ctx {
     pub fn sym_of_int(&self, x: IntVar) -> &Sym
         requires there { x.0 < length self.now.bounds }
         requires variable { 0 < x.0 }
-        ensures { slice_get (syms_of kind.Number self.now.pieces) (x.0 - 1) ≡ Some result.now }
+        ensures symbol { slice_get (syms_of kind.Number self.now.pieces) (x.0 - 1) ≡ Some result.now }
     {
         self.asked.get().sym_of(Kind::Number, x.0 - 1)
     }
@@ -233,7 +251,7 @@ impl Ctx {
     /// The symbol of a variant's variable.
     pub fn sym_of_tag(&self, x: TagVar) -> &Sym
         requires { x.0 < length self.now.tags }
-        ensures { slice_get (syms_of kind.Tag self.now.pieces) x.0 ≡ Some result.now }
+        ensures symbol { slice_get (syms_of kind.Tag self.now.pieces) x.0 ≡ Some result.now }
     {
         self.asked.get().sym_of(Kind::Tag, x.0)
     }
@@ -241,21 +259,21 @@ impl Ctx {
     /// The symbol of an option's variable.
     pub fn sym_of_opt(&self, o: OptVar) -> &Sym
         requires { o.0 < length self.now.options }
-        ensures { slice_get (syms_of kind.Option self.now.pieces) o.0 ≡ Some result.now }
+        ensures symbol { slice_get (syms_of kind.Option self.now.pieces) o.0 ≡ Some result.now }
     {
         self.asked.get().sym_of(Kind::Option, o.0)
     }
 
     /// The classes of the elements.
     pub fn classes(&self) -> &Classes
-        ensures { result.now ≡ self.now.classes }
+        ensures classes { result.now ≡ self.now.classes }
     {
         &self.classes
     }
 
     /// The bounds of the numbers.
     pub fn bounds(&self) -> &Bounds
-        ensures { result.now ≡ self.now.bounds }
+        ensures bounds { result.now ≡ self.now.bounds }
     {
         &self.bounds
     }
@@ -265,7 +283,7 @@ impl Ctx {
     /// # Errors
     /// `NoMemory` where memory runs out.
     pub fn try_copy(&self, alloc: Global) -> Result<Ctx, NoMemory>
-        ensures { IfOk result (λ copy.
+        ensures equal { IfOk result (λ copy.
             copy ≡ record self.now { classes = record self.now.classes { spare = copy.classes.spare } }) }
     {
         let classes = self.classes.try_copy(alloc)?;
@@ -410,5 +428,17 @@ pub fn terms_have_values(model: &Model, ty: &Ty)
         × (value_of w (made_of model.now ty.now p).term ≡ x) }
 {
     model.well_typed();
+    let _ = ty;
+}
+
+/// Tells a proof that the term of a symbol, and each payload in it, has no variables but those made for the symbol,
+/// and that each of these has the value of the part that its own symbol names.
+pub fn terms_are_named(model: &Model, ty: &Ty)
+    ensures own { (root : Root) (from : Counts) → OwnsAll (piece_of model.now ty.now root from) }
+    ensures named { (root : Root) (from : Counts) (v : Valuation)
+        → PayloadsHold v (piece_of model.now ty.now root from)
+        → Names v (piece_of model.now ty.now root from) }
+{
+    let _ = model.sorts();
     let _ = ty;
 }

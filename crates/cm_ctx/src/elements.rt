@@ -9,6 +9,20 @@ use crate::mask::{self, Mask};
 use cm_model::SortVar;
 use cm_sorts::Classes;
 
+/// Whether the two are there and of one sort.
+pub fn are_of_one_sort(classes: &Classes, x: SortVar, y: SortVar) -> bool
+    ensures exact { IsTrue result ↔ ((x.0 < length classes.now.sorts) × (y.0 < length classes.now.sorts)
+        × (slice_index classes.now.sorts x.0 ≡ slice_index classes.now.sorts y.0)) }
+{
+    let Some(first) = classes.sort(x) else {
+        return false;
+    };
+    let Some(second) = classes.sort(y) else {
+        return false;
+    };
+    first == second
+}
+
 /// The outcomes of the comparison of two elements.
 pub fn outcomes(classes: &Classes, x: SortVar, y: SortVar) -> Mask
     requires x { x.0 < length classes.now.sorts }

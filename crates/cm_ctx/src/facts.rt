@@ -45,7 +45,7 @@ pub trait Facts {
     /// The term of the option's payload, whether it is decided or not. It takes no memory.
     fn payload_of(&self, o: OptVar) -> &Term
         requires { (t : Term) × IsPayload (pieces self.now) o.0 t }
-        ensures { (t : Term) → IsPayload (pieces self.now) o.0 t → result.now ≡ t };
+        ensures term { (t : Term) → IsPayload (pieces self.now) o.0 t → result.now ≡ t };
 }
 
 impl Facts for Ctx {

@@ -15,7 +15,7 @@ mod piece;
 mod steps;
 
 pub use choice::{Choice, Known};
-pub use context::{Ctx, terms_have_values};
+pub use context::{Ctx, terms_are_named, terms_have_values};
 pub use facts::Facts;
 pub use mask::Mask;
 pub use piece::{Counts, ElementPart, NumberPart, OptionPart, Piece, TagPart, Variables};

@@ -11,7 +11,7 @@ impl Mask {
     /// Whether the outcome is among these.
     pub fn has(self, outcome: u8) -> bool
         requires { outcome < 64 }
-        ensures { IsTrue result ↔ Has self.0 outcome }
+        ensures has { IsTrue result ↔ Has self.0 outcome }
     {
         (self.0 >> outcome) & 1 == 1
     }

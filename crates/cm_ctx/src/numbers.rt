@@ -53,6 +53,41 @@ fn both(first: bool, second: bool) -> bool
     first && second
 }
 
+/// How far a number or an offset of a question is from 0 at most.
+const QUESTION_LIMIT: i64 = 500_000_000;
+
+fn is_small(n: i64) -> bool
+    ensures { IsTrue result ↔ IsSmall n }
+{
+    both(-QUESTION_LIMIT <= n, n <= QUESTION_LIMIT)
+}
+
+fn is_number(count: u64, number: Num) -> bool
+    ensures { IsTrue result ↔ IsNum count number }
+{
+    both(variable(number).0 < count, is_small(offset(number)))
+}
+
+/// Whether both can be asked for where there are so many variables.
+pub fn are_numbers(count: u64, left: Num, right: Num) -> bool
+    ensures { IsTrue result ↔ (IsNum count left × IsNum count right) }
+{
+    both(is_number(count, left), is_number(count, right))
+}
+
+/// Whether the number and the ends can be asked for.
+pub fn is_range(count: u64, of: Num, lo: i64, hi: i64) -> bool
+    ensures { IsTrue result ↔ (IsNum count of × IsSmall lo × IsSmall hi × (lo ≤ℤ hi)) }
+{
+    both(is_number(count, of), are_ends(lo, hi))
+}
+
+fn are_ends(lo: i64, hi: i64) -> bool
+    ensures { IsTrue result ↔ (IsSmall lo × IsSmall hi × (lo ≤ℤ hi)) }
+{
+    both(is_small(lo), both(is_small(hi), lo <= hi))
+}
+
 /// The outcomes of the comparison of two numbers.
 pub fn order_outcomes(bounds: &Bounds, left: Num, right: Num) -> Mask
     requires left { IsNum (length bounds.now) left }

@@ -17,16 +17,21 @@ make_fields-make-requires t c =
 pub make_fields-fields-preserved : goal.make_fields-fields-preserved
 make_fields-fields-preserved t c =
     let m = c.args.making.now in
-    let added = subst (λ (q : List Step). Adds (maker_of m c.args.records.now (c.index-fields-i.result).ty (place m.root q (counted m.from c.fields.to))) c.fields.to c.make.new.to c.in_ok-term.term) (c.in_ok-inner.ensures)
+    let added = subst (λ (q : List Step). Adds (maker_of m c.args.records.now (c.index-fields-i.result).ty
+    (place m.root q (counted m.from c.fields.to))) c.fields.to c.make.new.to c.in_ok-term.term)
+    (c.in_ok-inner.ensures)
     (rw (c.index-fields-i.is) c.in_ok-term.ensures) in
-    rw (c.in_ok-push.ensures.ok) (going_step m.root c.args.path.now m.from (maker_of m c.args.records.now) c.args.fields.now c.args.to.now c.fields.to c.make.new.to c.fields.i c.index-fields-i.result
-    c.fields.terms c.in_ok-term.term (c.index-fields-i.result).ty (omega arith) (ap (λ (p : Part). p.ty) c.index-fields-i.is) c.fields.invariant added)
+    rw (c.in_ok-push.ensures.ok) (going_step m.root c.args.path.now m.from
+    (maker_of m c.args.records.now) c.args.fields.now c.args.to.now c.fields.to c.make.new.to c.fields.i c.index-fields-i.result
+    c.fields.terms c.in_ok-term.term (c.index-fields-i.result).ty (omega arith)
+    (ap (λ (p : Part). p.ty) c.index-fields-i.is) c.fields.invariant added)
 
 pub make_record-returns-then-index-records : goal.make_record-returns-then-index-records
 make_record-returns-then-index-records t c =
     let m = c.args.making.now in
     IfOk-weaker c.record_of.result _ _
-    (λ u is. adds_nothing m.ints.now m.enums.now c.args.records.now c.args.rec _ c.args.to.now u c.new.result (subst (λ r. length c.args.records.now ≤ r) c.from-index.ensures c.if-index-records.true) c.new.ensures is)
+    (λ u is. adds_nothing m.ints.now m.enums.now c.args.records.now c.args.rec _ c.args.to.now u c.new.result
+    (subst (λ r. length c.args.records.now ≤ r) c.from-index.ensures c.if-index-records.true) c.new.ensures is)
     c.record_of.ensures
 
 pub make_record-make_fields-requires : goal.make_record-make_fields-requires

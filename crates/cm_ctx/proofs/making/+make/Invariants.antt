@@ -19,4 +19,6 @@ abbrev pub decreases-make_fields : goal.decreases-make_fields
 decreases-make_fields l = 2 * sizes l.fields.now + 1 + load l.records.now
 
 abbrev pub invariant-make_fields-fields : goal.invariant-make_fields-fields
-invariant-make_fields-fields l = Going l.fn.making.root l.fn.path l.fn.making.from (field_makers l.fn.making l.fn.records l.fn.fields) l.fn.to l.i l.terms l.to
+invariant-make_fields-fields l =
+    Going l.fn.making.root l.fn.path l.fn.making.from
+    (field_makers l.fn.making l.fn.records l.fn.fields) l.fn.to l.i l.terms l.to

@@ -37,5 +37,8 @@ returns-clause-kept c = λ v.
           let zero = s.0.zero in
           let first = s.1.0 in
           let second = s.1.1 in
-          (c.add_le-2.ensures.kept v).1 ((c.add_le.ensures.kept v).1 (s.0, rw above (omega (arith, ints))), rw below (omega (arith, ints)))),
+          (c.add_le-2.ensures.kept v).1 (
+            (c.add_le.ensures.kept v).1 (s.0, rw above (omega (arith, ints))),
+            rw below (omega (arith, ints)),
+          )),
     )

@@ -9,4 +9,5 @@ pub fresh_of-requires-clause-new : goal.fresh_of-requires-clause-new
 fresh_of-requires-clause-new c = nothing_asked c.args.ctx.now.pieces _ c.requires.none
 
 pub returns : goal.returns
-returns c = option_more c.args.model.now c.requires.option.0 _ _ c.args.ctx.now c.fresh_of.new.self (rw (c.requires.option.1) at c.in_ok-term.ensures.counts)
+returns c = option_more c.args.model.now c.requires.option.0 _ _ c.args.ctx.now c.fresh_of.new.self
+    (rw (c.requires.option.1) at c.in_ok-term.ensures.counts)

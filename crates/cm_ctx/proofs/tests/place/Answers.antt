@@ -5,4 +5,9 @@ use Rattle.cm_ctx.proofs.Outcomes.{same_small}
 use Rattle.cm_ctx.proofs.tests.place.Goals as goal
 
 pub returns-clause-well : goal.returns-clause-well
-returns-clause-well c = λ k lt. ((lt, rw (same_small c.args.plus c.requires) c.requires), (omega (arith, ints), omega (arith, ints)), (omega (arith, ints), omega (arith, ints)), omega (arith, ints))
+returns-clause-well c = λ k lt. (
+  (lt, rw (same_small c.args.plus c.requires) c.requires),
+  (omega (arith, ints), omega (arith, ints)),
+  (omega (arith, ints), omega (arith, ints)),
+  omega (arith, ints),
+)

@@ -7,7 +7,8 @@ use Rattle.cm_ctx.proofs.asked.Asked.piece_of.Goals as goal
 
 pub piece_at-requires : goal.piece_at-requires
 piece_at-requires c =
-    let w = subst (λ (ps : List Piece). (p : Piece) × IsAmong ps p × (p.root ≡ c.args.root)) (sym c.self.view_is) c.requires in
+    let w = subst (λ (ps : List Piece). (p : Piece) × IsAmong ps p × (p.root ≡ c.args.root))
+    (sym c.self.view_is) c.requires in
     let is = rw (c.as_slice-roots.ensures.value) at c.piece_number-number.ensures in
     rw (c.as_slice-pieces.ensures.value) (slice_get_within c.self.inside.pieces.items c.piece_number-number.result w.0
     (root_at c.self.inside.pieces.items c.self.inside.options.items c.self.inside.roots.items c.self.invariant c.args.root w.0 c.piece_number-number.result w.1 w.2 is))

@@ -10,7 +10,8 @@ pub returns-clause-satisfiable : goal.returns-clause-satisfiable
 returns-clause-satisfiable c = subst IsSatisfiable c.self.view_is (satisfiable _ _ c.self.invariant)
 
 pub returns-clause-row : goal.returns-clause-row
-returns-clause-row c = subst (λ (x : Context). InRow first_counts x.pieces (counts_of x)) c.self.view_is c.self.invariant.row
+returns-clause-row c = subst (λ (x : Context). InRow first_counts x.pieces
+    (counts_of x)) c.self.view_is c.self.invariant.row
 
 pub returns-clause-apart : goal.returns-clause-apart
 returns-clause-apart c =

@@ -11,10 +11,14 @@ pub payload-requires : goal.payload-requires
 payload-requires c =
     let ps = c.self.inside.asked in
     let w = subst (λ (x : Context). (t : Term) × IsPayload x.pieces c.args.o.0 t) (sym c.self.view_is) c.requires in
-    rw (c.get.ensures.value) (slice_get_within (payloads_of ps) c.args.o.0 w.0 (payload_found _ ps c.args.o.0 w.0 c.self.invariant.row w.1))
+    rw (c.get.ensures.value) (slice_get_within (payloads_of ps) c.args.o.0 w.0
+    (payload_found _ ps c.args.o.0 w.0 c.self.invariant.row w.1))
 
 pub returns : goal.returns
-returns c = λ t h.
-    let ps = c.self.inside.asked in
-    let k = subst (λ (x : Context). IsPayload x.pieces c.args.o.0 t) (sym c.self.view_is) h in
-    the_same (payloads_of ps) c.args.o.0 c.payload.result.now t (rw (c.get.ensures.value) at c.payload.ensures) (payload_found _ ps c.args.o.0 t c.self.invariant.row k)
+returns c = record {
+  term = λ t h.
+      let ps = c.self.inside.asked in
+      let k = subst (λ (x : Context). IsPayload x.pieces c.args.o.0 t) (sym c.self.view_is) h in
+      the_same (payloads_of ps) c.args.o.0 c.payload.result.now t (rw (c.get.ensures.value) at c.payload.ensures)
+      (payload_found _ ps c.args.o.0 t c.self.invariant.row k);
+}

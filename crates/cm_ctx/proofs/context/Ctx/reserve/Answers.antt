@@ -4,9 +4,13 @@ use Rattle.cm_ctx.proofs.context.Ctx.reserve.Goals as goal
 use Rattle.cm_ctx.proofs.context.Ctx.reserve.Goals.{After-has_valuation}
 use Rattle.cm_ctx.specs.Asking.{InRow}
 
-as_many : (c : After-has_valuation) → counts (length c.self.inside.classes.sorts) (length c.self.inside.bounds) (length c.self.inside.tags.items) (length c.self.inside.options.items)
-    ≡ counts (length c.reserve-reserved.new.self.sorts) (length c.self.inside.bounds) (length c.self.inside.tags.items) (length c.self.inside.options.items)
-as_many c = ap (λ n. counts n (length c.self.inside.bounds) (length c.self.inside.tags.items) (length c.self.inside.options.items)) (sym (ap length c.reserve-reserved.ensures.sorts))
+as_many : (c : After-has_valuation)
+    → counts (length c.self.inside.classes.sorts) (length c.self.inside.bounds) (length c.self.inside.tags.items)
+    (length c.self.inside.options.items)
+    ≡ counts (length c.reserve-reserved.new.self.sorts) (length c.self.inside.bounds)
+    (length c.self.inside.tags.items) (length c.self.inside.options.items)
+as_many c = ap (λ n. counts n (length c.self.inside.bounds) (length c.self.inside.tags.items)
+    (length c.self.inside.options.items)) (sym (ap length c.reserve-reserved.ensures.sorts))
 
 pub invariant_of-self : goal.invariant_of-self
 invariant_of-self c = record {

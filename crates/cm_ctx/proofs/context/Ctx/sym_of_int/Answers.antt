@@ -8,10 +8,15 @@ use Rattle.cm_ctx.proofs.context.Ctx.sym_of_int.Goals as goal
 
 pub sym_of-requires : goal.sym_of-requires
 sym_of-requires c =
-    let old : Context = context c.self.inside.classes c.self.inside.bounds c.self.inside.tags.items c.self.inside.options.items c.self.inside.asked in
+    let old : Context =
+    context c.self.inside.classes c.self.inside.bounds c.self.inside.tags.items c.self.inside.options.items c.self.inside.asked in
     let all = numbers_named first_counts (counts_of old) c.self.inside.asked c.self.invariant.row in
-    let lt : c.args.x.0 < length old.bounds = subst (λ (x : Context). c.args.x.0 < length x.bounds) (sym c.self.view_is) c.requires.there in
+    let lt : c.args.x.0 < length old.bounds = subst (λ (x : Context). c.args.x.0
+    < length x.bounds) (sym c.self.view_is) c.requires.there in
     rw (c.get.ensures.value) (let some = c.requires.variable in omega arith)
 
 pub returns : goal.returns
-returns c = subst (λ (x : Context). slice_get (syms_of kind.Number x.pieces) (c.args.x.0 - 1) ≡ Some c.sym_of.result.now) c.self.view_is (rw (c.get.ensures.value) at c.sym_of.ensures)
+returns c = record {
+  symbol = subst (λ (x : Context). slice_get (syms_of kind.Number x.pieces) (c.args.x.0 - 1)
+      ≡ Some c.sym_of.result.now) c.self.view_is (rw (c.get.ensures.value) at c.sym_of.ensures);
+}

@@ -8,10 +8,15 @@ use Rattle.cm_ctx.proofs.context.Ctx.sym_of_opt.Goals as goal
 
 pub sym_of-requires : goal.sym_of-requires
 sym_of-requires c =
-    let old : Context = context c.self.inside.classes c.self.inside.bounds c.self.inside.tags.items c.self.inside.options.items c.self.inside.asked in
+    let old : Context =
+    context c.self.inside.classes c.self.inside.bounds c.self.inside.tags.items c.self.inside.options.items c.self.inside.asked in
     let all = options_named first_counts (counts_of old) c.self.inside.asked c.self.invariant.row in
-    let lt : c.args.o.0 < length old.options = subst (λ (x : Context). c.args.o.0 < length x.options) (sym c.self.view_is) c.requires in
+    let lt : c.args.o.0 < length old.options = subst (λ (x : Context). c.args.o.0
+    < length x.options) (sym c.self.view_is) c.requires in
     rw (c.get.ensures.value) (omega arith)
 
 pub returns : goal.returns
-returns c = subst (λ (x : Context). slice_get (syms_of kind.Option x.pieces) c.args.o.0 ≡ Some c.sym_of.result.now) c.self.view_is (rw (c.get.ensures.value) at c.sym_of.ensures)
+returns c = record {
+  symbol = subst (λ (x : Context). slice_get (syms_of kind.Option x.pieces) c.args.o.0
+      ≡ Some c.sym_of.result.now) c.self.view_is (rw (c.get.ensures.value) at c.sym_of.ensures);
+}
