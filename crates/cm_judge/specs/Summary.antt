@@ -52,7 +52,8 @@ pub record AreTheCores (c : Cores) (Is : ℕ → Type 0) : Type 0 where
 
 -- for each mark and kind, the cores of the entries that cover the line
 abbrev pub IsSummaryOf : LineSummary → List Entry → ℕ → Type 0
-IsSummaryOf s entries line = (who : Who) (kind : Kind) → who ≢ Other → AreTheCores (cores_of s who kind) (Touches entries who kind line)
+IsSummaryOf s entries line = (who : Who) (kind : Kind) → who ≢ Other
+    → AreTheCores (cores_of s who kind) (Touches entries who kind line)
 
 -- the cores of two summaries
 abbrev pub union_of : Cores → Cores → Cores

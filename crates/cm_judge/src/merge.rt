@@ -46,7 +46,8 @@ pub(crate) fn merged(alloc: Global, mut records: Vec<Record>) -> Result<Vec<Reco
 
 // The lines found, in order, each once.
 fn ordered(mut found: Vec<u64>) -> Vec<u64>
-    ensures { (records : List Record) (entries : List Entry) → AreFound records records found.items → StandsFor records entries
+    ensures { (records : List Record) (entries : List Entry) → AreFound records records found.items
+        → StandsFor records entries
         → AreConflictLines entries result.items }
 {
     found.sort_unstable();
@@ -57,7 +58,8 @@ fn ordered(mut found: Vec<u64>) -> Vec<u64>
 /// The lines in conflict, ascending, each once.
 pub(crate) fn conflict_lines(alloc: Global, records: &[Record]) -> Result<Vec<u64>, NoMemory>
     requires { HasOneEach records.now }
-    ensures { IfOk result (λ lines. (entries : List Entry) → StandsFor records.now entries → AreConflictLines entries lines.items) }
+    ensures { IfOk result (λ lines. (entries : List Entry) → StandsFor records.now entries
+        → AreConflictLines entries lines.items) }
 {
     let mut lines = Vec::new(alloc);
     for record in records {
@@ -76,7 +78,8 @@ pub(crate) fn conflict_listed(
 ) -> Result<Vec<u64>, NoMemory>
     requires one_each { HasOneEach records.now }
     requires listed { ListsLines records.now used.now }
-    ensures { IfOk result (λ lines. (entries : List Entry) → StandsFor records.now entries → AreConflictLines entries lines.items) }
+    ensures { IfOk result (λ lines. (entries : List Entry) → StandsFor records.now entries
+        → AreConflictLines entries lines.items) }
 {
     let mut lines = Vec::new(alloc);
     for k in used {

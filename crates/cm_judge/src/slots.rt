@@ -60,8 +60,12 @@ impl Record {
 
     /// The record is one of a line, and its accesses conflict there.
     pub(crate) fn is_conflict(&self) -> bool
-        ensures yes { IsTrue result → (self.now.line % 64 ≡ 0) × ((entries : List Entry) → IsSummaryOf self.now.summary entries self.now.line → IsConflictLine entries self.now.line) }
-        ensures no { result ≡ false → (entries : List Entry) → self.now.line % 64 ≡ 0 → IsSummaryOf self.now.summary entries self.now.line → ¬ IsConflictLine entries self.now.line }
+        ensures yes { IsTrue result
+            → (self.now.line % 64 ≡ 0)
+            × ((entries : List Entry) → IsSummaryOf self.now.summary entries self.now.line
+            → IsConflictLine entries self.now.line) }
+        ensures no { result ≡ false → (entries : List Entry) → self.now.line % 64 ≡ 0
+            → IsSummaryOf self.now.summary entries self.now.line → ¬ IsConflictLine entries self.now.line }
     {
         self.has_line() & self.summary.is_conflict()
     }

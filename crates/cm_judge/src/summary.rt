@@ -110,7 +110,8 @@ impl LineSummary {
 
     /// What is kept of the accesses to a line, where each of the two was kept of some.
     pub(crate) fn union(&self, other: &LineSummary) -> LineSummary
-        ensures { (who : Who) (kind : Kind) → who ≢ Other → cores_of result who kind ≡ union_of (cores_of self.now who kind) (cores_of other.now who kind) }
+        ensures { (who : Who) (kind : Kind) → who ≢ Other
+            → cores_of result who kind ≡ union_of (cores_of self.now who kind) (cores_of other.now who kind) }
     {
         LineSummary {
             cores: [
@@ -143,7 +144,8 @@ impl LineSummary {
 
     /// A write of one call and an access of the other were made by different cores.
     pub(crate) fn is_conflict(&self) -> bool
-        ensures { (entries : List Entry) (line : ℕ) → IsSummaryOf self.now entries line → (IsTrue result ↔ IsConflictLine entries line) }
+        ensures { (entries : List Entry) (line : ℕ) → IsSummaryOf self.now entries line
+            → (IsTrue result ↔ IsConflictLine entries line) }
     {
         self.some_differ()
     }
@@ -151,8 +153,10 @@ impl LineSummary {
     /// Adds an access to the line.
     pub(crate) fn add(&mut self, e: &Entry)
         requires { e.now.who ≢ Other }
-        ensures own { cores_of self.new e.now.who e.now.kind ≡ with_core (cores_of self.old e.now.who e.now.kind) e.now.core }
-        ensures others { (who : Who) (kind : Kind) → (who ≢ e.now.who) ⊎ (kind ≢ e.now.kind) → cores_of self.new who kind ≡ cores_of self.old who kind }
+        ensures own { cores_of self.new e.now.who e.now.kind ≡ with_core
+            (cores_of self.old e.now.who e.now.kind) e.now.core }
+        ensures others { (who : Who) (kind : Kind) → (who ≢ e.now.who) ⊎ (kind ≢ e.now.kind)
+            → cores_of self.new who kind ≡ cores_of self.old who kind }
         ensures small { e.now.core ≤ 65535 }
     {
         let place = place_of(e.who, e.kind);

@@ -79,13 +79,17 @@ pub record SameRecords (before after : List Record) : Type 0 where
 
 -- beside any others, the records keep what those of before kept
 abbrev pub KeepWhat : List Record → List Record → Type 0
-KeepWhat before after = (others : List Record) (entries : List Entry) (line : ℕ) → line % 64 ≡ 0 → KeepLine (others ++ before) entries line → KeepLine (others ++ after) entries line
+KeepWhat before after = (others : List Record) (entries : List Entry) (line : ℕ) → line % 64 ≡ 0
+    → KeepLine (others ++ before) entries line → KeepLine (others ++ after) entries line
 
 -- a line has at most one record
 abbrev pub HasOneEach : List Record → Type 0
-HasOneEach records = (q r : Record) → Contains records q → Contains records r → q.line % 64 ≡ 0 → q.line ≡ r.line → q ≡ r
+HasOneEach records = (q r : Record) → Contains records q → Contains records r → q.line % 64 ≡ 0 → q.line ≡ r.line
+    → q ≡ r
 
 -- the lines in conflict of the records done
 pub record AreFound (records : List Record) (done : List Record) (lines : List ℕ) : Type 0 where
-  pub sound : (entries : List Entry) → StandsFor records entries → (line : ℕ) → Contains lines line → IsConflictLine entries line
-  pub complete : (entries : List Entry) → StandsFor records entries → (r : Record) → Contains done r → IsConflictLine entries r.line → Contains lines r.line
+  pub sound : (entries : List Entry) → StandsFor records entries → (line : ℕ) → Contains lines line
+      → IsConflictLine entries line
+  pub complete : (entries : List Entry) → StandsFor records entries → (r : Record) → Contains done r
+      → IsConflictLine entries r.line → Contains lines r.line

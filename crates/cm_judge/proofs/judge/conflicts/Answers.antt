@@ -12,7 +12,12 @@ no_items (x ∷ xs) e = absurd (omega (arith, e))
 
 pub returns-then-is_empty : goal.returns-then-is_empty
 returns-then-is_empty c =
-    rw (no_items c.args.spill.now (eqb-true (length c.args.spill.now) 0 (sym c.if-is_empty.ensures)), append-nil c.args.table.now) c.conflicts.ensures
+    rw (
+      no_items c.args.spill.now
+          (eqb-true (length c.args.spill.now) 0 (sym c.if-is_empty.ensures)),
+      append-nil c.args.table.now,
+    )
+    c.conflicts.ensures
 
 if_ok : {T E : Type 0} (P Q : T → Type 0) (r : Result T E) → ((x : T) → P x → Q x) → IfOk r P → IfOk r Q
 if_ok P Q (Ok x) f p = f x p
@@ -25,6 +30,9 @@ pub returns : goal.returns
 returns c =
     let spill = c.args.spill.now in
     if_ok _ _ c.conflict_lines.result
-    (λ lines found entries stands. found entries (λ line is. rw c.as_slice.ensures.value (c.in_ok-records-2.ensures.keep [] entries line is
-    (rw c.in_ok-extend_from_slice.ensures.items (Keep-same c.args.table.now c.in_ok-records.records.items spill entries line is c.in_ok-records.ensures (stands line is))))))
+    (λ lines found entries stands. found entries
+    (λ line is. rw c.as_slice.ensures.value (c.in_ok-records-2.ensures.keep [] entries line is
+    (rw c.in_ok-extend_from_slice.ensures.items
+    (Keep-same c.args.table.now c.in_ok-records.records.items spill entries line is c.in_ok-records.ensures
+    (stands line is))))))
     c.conflict_lines.ensures

@@ -14,11 +14,16 @@ loop-record-preserved c =
     elim c.if-is_conflict.branch [
       | then-is_conflict+in_ok-push w ↦
           let yes = c.is_conflict.ensures.yes w.if-is_conflict.true in
-          rw (w.lines-is, w.in_ok-push.ensures.items) (found_more_at records lines i _ c.loop-record-test.true c.requires yes.0 yes.1 c.loop-record.invariant)
-      | else-is_conflict w ↦ rw w.lines-is (found_calm records lines i _ c.loop-record-test.true c.requires (c.is_conflict.ensures.no w.if-is_conflict.false) c.loop-record.invariant)
+          rw (w.lines-is, w.in_ok-push.ensures.items)
+          (found_more_at records lines i _ c.loop-record-test.true c.requires yes.0 yes.1 c.loop-record.invariant)
+      | else-is_conflict w ↦ rw w.lines-is
+          (found_calm records lines i _ c.loop-record-test.true c.requires
+          (c.is_conflict.ensures.no w.if-is_conflict.false) c.loop-record.invariant)
     ]
 
 pub returns : goal.returns
 returns c entries stands =
     let records = c.args.records.now in
-    c.ordered.ensures records entries (subst (λ (l : List Record). AreFound records l c.loop-record.lines.items) (take_all c.loop-record.record-index records c.loop-record-test.false) c.loop-record.invariant) stands
+    c.ordered.ensures records entries
+    (subst (λ (l : List Record). AreFound records l c.loop-record.lines.items)
+    (take_all c.loop-record.record-index records c.loop-record-test.false) c.loop-record.invariant) stands

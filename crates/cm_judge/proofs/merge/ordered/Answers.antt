@@ -6,4 +6,6 @@ use Rattle.cm_judge.proofs.merge.ordered.Goals as goal
 pub returns : goal.returns
 returns c records entries found stands =
     let sorted = c.sort_unstable.new.self.items in
-    all_found records c.args.found.items sorted c.dedup.new.self.items c.sort_unstable.ensures.permutation c.sort_unstable.ensures.sorted (dedup_is eqb sorted c.dedup.new.self.items c.dedup.ensures.filtered) found entries stands
+    all_found records c.args.found.items sorted c.dedup.new.self.items c.sort_unstable.ensures.permutation
+    c.sort_unstable.ensures.sorted
+    (dedup_is eqb sorted c.dedup.new.self.items c.dedup.ensures.filtered) found entries stands

@@ -7,6 +7,9 @@ pub loop-slot-preserved : goal.loop-slot-preserved
 loop-slot-preserved c =
     let i = c.loop-slot.slot-index in
     elim c.if-has_line.branch [
-      | then-has_line+in_ok-push w ↦ rw (w.records-is, w.in_ok-push.ensures.items) (Same-push c.args.slots.now c.loop-slot.records.items i _ c.loop-slot-test.true c.loop-slot.invariant)
-      | else-has_line w ↦ rw w.records-is (Same-skip c.args.slots.now c.loop-slot.records.items i _ c.loop-slot-test.true (iff_false c.has_line.ensures w.if-has_line.false) c.loop-slot.invariant)
+      | then-has_line+in_ok-push w ↦ rw (w.records-is, w.in_ok-push.ensures.items)
+          (Same-push c.args.slots.now c.loop-slot.records.items i _ c.loop-slot-test.true c.loop-slot.invariant)
+      | else-has_line w ↦ rw w.records-is
+          (Same-skip c.args.slots.now c.loop-slot.records.items i _ c.loop-slot-test.true
+          (iff_false c.has_line.ensures w.if-has_line.false) c.loop-slot.invariant)
     ]

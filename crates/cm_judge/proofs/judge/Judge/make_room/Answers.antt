@@ -5,6 +5,7 @@ pub returns : goal.returns
 returns c = record {
   stands = λ entries s line aligned.
       let before = c.self.inside in
-      Keep-same before.table c.make_room_ahead.new.self before.spill.items entries line aligned c.make_room_ahead.ensures
+      Keep-same before.table c.make_room_ahead.new.self before.spill.items entries line aligned
+      c.make_room_ahead.ensures
       (rw c.self.view_is (s line aligned));
 }

@@ -10,8 +10,10 @@ invariant_of-self c =
     let r = c.begin.new.self in
     let free = rw (← c.self.view_is) at c.requires.free in
     record {
-      found = found_filled slots c.args.k r (subst (λ n. IsFreeFor slots n c.args.k) (sym c.begin.ensures.first.line_is) free) c.self.invariant.found;
+      found = found_filled slots c.args.k r
+          (subst (λ n. IsFreeFor slots n c.args.k) (sym c.begin.ensures.first.line_is) free) c.self.invariant.found;
       listed = λ t.
           let lists = c.list_slot-self-inside.ensures t in
-          rw lists.1 (lists_filled slots c.self.inside.used.items c.args.k r free.in_table (c.self.invariant.listed lists.0));
+          rw lists.1 (lists_filled slots c.self.inside.used.items c.args.k r free.in_table
+          (c.self.invariant.listed lists.0));
     }

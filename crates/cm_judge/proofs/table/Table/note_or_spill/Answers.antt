@@ -10,6 +10,8 @@ returns-clause-noted c =
     let step = Replaces-push c.args.self.now c.args.spill.now.items r in
     rw (c.if-note_within.ensures.none refl, c.in-Ok.ensures.items)
     record {
-      here = λ entries h. Keep-here _ _ r entries c.args.e.now c.args.line first.line_is step c.requires.covered first.small (no_cores, inr refl, first.own) (λ who kind judged apart. inr (first.others who kind apart)) h;
-      elsewhere = λ entries other aligned apart h. Keep-elsewhere _ _ r entries other aligned step (rw first.line_is apart) h;
+      here = λ entries h. Keep-here _ _ r entries c.args.e.now c.args.line first.line_is step c.requires.covered
+          first.small (no_cores, inr refl, first.own) (λ who kind judged apart. inr (first.others who kind apart)) h;
+      elsewhere = λ entries other aligned apart h. Keep-elsewhere _ _ r entries other aligned step
+          (rw first.line_is apart) h;
     }
