@@ -27,7 +27,8 @@ fn note_lines(table: &mut Table, spill: &mut Vec<Record>, lines: Lines, e: &Entr
     requires lines { AreLinesOf e.now lines }
     requires range { IsInRange e.now }
     requires room { vec_len spill.old + lines.count ≤ vec_capacity spill.old }
-    ensures { (entries : List Entry) → StandsFor (table.old ++ spill.old.items) entries → StandsFor (table.new ++ spill.new.items) (entries ++ e.now ∷ []) }
+    ensures { (entries : List Entry) → StandsFor (table.old ++ spill.old.items) entries
+        → StandsFor (table.new ++ spill.new.items) (entries ++ e.now ∷ []) }
 {
     for k in 0..lines.count {
         let line = lines.first + 64 * u64::from(k);
@@ -41,7 +42,8 @@ fn note_lines(table: &mut Table, spill: &mut Vec<Record>, lines: Lines, e: &Entr
 fn note_one(table: &mut Table, lines: Lines, e: &Entry) -> bool
     requires judged { e.now.who ≢ Other }
     requires lines { AreLinesOf e.now lines }
-    ensures noted { IsTrue result → (spill : List Record) (entries : List Entry) → StandsFor (table.old ++ spill) entries → StandsFor (table.new ++ spill) (entries ++ e.now ∷ []) }
+    ensures noted { IsTrue result → (spill : List Record) (entries : List Entry)
+        → StandsFor (table.old ++ spill) entries → StandsFor (table.new ++ spill) (entries ++ e.now ∷ []) }
     ensures none { result ≡ false → table.new ≡ table.old }
 {
     if lines.count != 1 {
@@ -67,7 +69,8 @@ fn trim(alloc: Global, spill: &mut Vec<Record>, limit: &mut usize)
 
 // The lines in conflict. Records are put together only where some have spilled.
 fn conflicts(alloc: Global, table: &Table, spill: &[Record]) -> Result<Vec<u64>, NoMemory>
-    ensures { IfOk result (λ lines. (entries : List Entry) → StandsFor (table.now ++ spill.now) entries → AreConflictLines entries lines.items) }
+    ensures { IfOk result (λ lines. (entries : List Entry) → StandsFor (table.now ++ spill.now) entries
+        → AreConflictLines entries lines.items) }
 {
     if spill.is_empty() {
         return table.conflicts(alloc);
@@ -87,6 +90,15 @@ pub struct Judge {
     // Accesses to lines that found no slot.
     spill: Vec<Record>,
     spill_limit: usize,
+}
+
+/// How many lines have a slot, how many slots there are, and how many records spilled.
+#[cfg(test)]
+#[derive(Clone, Copy)]
+pub(crate) struct Sizes {
+    pub(crate) held: usize,
+    pub(crate) slots: usize,
+    pub(crate) spilled: usize,
 }
 
 impl Model for Judge {
@@ -111,6 +123,17 @@ impl Judge {
         }
     }
 
+    /// What its memory goes with.
+    #[cfg(test)]
+    pub(crate) fn sizes(&self) -> Sizes {
+        let (held, slots) = self.table.sizes();
+        Sizes {
+            held,
+            slots,
+            spilled: self.spill.len(),
+        }
+    }
+
     /// Makes room for the lines of items that are added next. The judge stands for what it stood for; with room made,
     /// entries of a large section are added faster.
     pub fn make_room(&mut self, items: &[Item])
@@ -122,7 +145,8 @@ impl Judge {
     /// Adds an entry of the section.
     pub fn add(&mut self, e: &Entry) -> Result<(), NoMemory>
         requires { IsInRange e.now }
-        ensures ok { OnOk result ((entries : List Entry) → StandsFor self.old entries → StandsFor self.new (entries ++ e.now ∷ [])) }
+        ensures ok { OnOk result
+            ((entries : List Entry) → StandsFor self.old entries → StandsFor self.new (entries ++ e.now ∷ [])) }
         ensures err { OnErr result (self.new ≡ self.old) }
     {
         if e.who == Who::Other {
@@ -140,7 +164,8 @@ impl Judge {
         requires judged { e.now.who ≢ Other }
         requires lines { AreLinesOf e.now lines }
         requires range { IsInRange e.now }
-        ensures ok { OnOk result ((entries : List Entry) → StandsFor self.old entries → StandsFor self.new (entries ++ e.now ∷ [])) }
+        ensures ok { OnOk result
+            ((entries : List Entry) → StandsFor self.old entries → StandsFor self.new (entries ++ e.now ∷ [])) }
         ensures err { OnErr result (self.new ≡ self.old) }
     {
         self.spill.reserve(usize::from(lines.count))?;
@@ -152,7 +177,8 @@ impl Judge {
 
     /// The conflict lines of the entries, ascending, each once. The judge is then one of no entries.
     pub fn take_conflicts(&mut self) -> Result<List<u64>, NoMemory>
-        ensures lines { IfOk result (λ lines. (entries : List Entry) → StandsFor self.old entries → AreConflictLines entries lines) }
+        ensures lines { IfOk result
+            (λ lines. (entries : List Entry) → StandsFor self.old entries → AreConflictLines entries lines) }
         ensures emptied { OnOk result (StandsFor self.new []) }
         ensures err { OnErr result (self.new ≡ self.old) }
     {

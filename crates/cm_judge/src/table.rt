@@ -243,9 +243,16 @@ impl Table {
         }
     }
 
+    /// How many slots have a line, and how many slots there are.
+    #[cfg(test)]
+    pub(crate) fn sizes(&self) -> (usize, usize) {
+        (self.held, self.slots.len())
+    }
+
     /// The lines in conflict, ascending, each once.
     pub(crate) fn conflicts(&self, alloc: Global) -> Result<Vec<u64>, NoMemory>
-        ensures { IfOk result (λ lines. (entries : List Entry) → StandsFor self.now entries → AreConflictLines entries lines.items) }
+        ensures { IfOk result (λ lines. (entries : List Entry) → StandsFor self.now entries
+            → AreConflictLines entries lines.items) }
     {
         if self.is_listed {
             return conflict_listed(alloc, self.slots.as_slice(), self.used.as_slice());

@@ -172,17 +172,22 @@ fn judges_as_the_plain_program(rt: HostRuntime) -> Result<(), Fail> {
 }
 
 // Many lines with the same first slot, more than it and those behind it can take.
-#[test]
-fn judges_chosen_lines(rt: HostRuntime) -> Result<(), Fail> {
+fn chosen_lines(alloc: Global) -> Result<Vec<u64>, NoMemory> {
     // Times the table's multiplier it is 1, so a small number times it has a hash of 0.
     let inverse = 0xf1de_83e1_9937_733d;
-    let mut lines = Vec::new(rt.alloc());
+    let mut lines = Vec::new(alloc);
     for hash in 0..24000u64 {
         let line = hash.wrapping_mul(inverse);
         if line < 1 << 58 {
             lines.push(64 * line)?;
         }
     }
+    Ok(lines)
+}
+
+#[test]
+fn judges_chosen_lines(rt: HostRuntime) -> Result<(), Fail> {
+    let lines = chosen_lines(rt.alloc())?;
     assert!(rt; lines.len() > 320);
     let mut entries = Vec::new(rt.alloc());
     let mut seed = 1;
@@ -198,5 +203,56 @@ fn judges_chosen_lines(rt: HostRuntime) -> Result<(), Fail> {
     let found = judged(&rt, &mut judge, entries.as_slice())?;
     assert_eq!(rt; found.as_slice(), plain.as_slice());
     assert_eq!(rt; judged(&rt, &mut judge, &[])?.len(), 0);
+    Ok(())
+}
+
+// Adds a write of a line.
+fn add_write(rt: &impl Abort, judge: &mut Judge, line: u64) -> Result<(), NoMemory> {
+    let e = entry(0, Who::A, Kind::Write, line, 1);
+    assert!(rt; is_in_range(&e));
+    judge.add(&e)
+}
+
+// Adds writes of the first so many lines. The table is never more than three quarters full, and nothing spills.
+fn add_first(rt: &impl Abort, judge: &mut Judge, count: u64) -> Result<(), NoMemory> {
+    for k in 0..count {
+        add_write(rt, judge, k.wrapping_mul(64))?;
+        let sizes = judge.sizes();
+        assert!(rt; sizes.held.saturating_mul(4) <= sizes.slots.saturating_mul(3));
+        assert_eq!(rt; sizes.spilled, 0);
+    }
+    Ok(())
+}
+
+#[test]
+fn a_table_goes_with_its_lines(rt: HostRuntime) -> Result<(), Fail> {
+    let mut judge = Judge::new(rt.alloc());
+    add_first(&rt, &mut judge, 3000)?;
+    assert_eq!(rt; judge.sizes().held, 3000);
+    assert!(rt; judge.sizes().slots < 3000 * 8 / 3);
+    judge.take_conflicts()?;
+    assert!(rt; judge.sizes().slots > 3000);
+    add_first(&rt, &mut judge, 1)?;
+    judge.take_conflicts()?;
+    assert_eq!(rt; judge.sizes().slots, 0);
+    add_first(&rt, &mut judge, 100)?;
+    assert_eq!(rt; judge.sizes().held, 100);
+    Ok(())
+}
+
+#[test]
+fn spilled_records_go_with_their_lines(rt: HostRuntime) -> Result<(), Fail> {
+    let lines = chosen_lines(rt.alloc())?;
+    let most = lines.len().saturating_mul(2).saturating_add(1024);
+    let mut judge = Judge::new(rt.alloc());
+    let mut greatest = 0;
+    for _ in 0..40 {
+        for line in &lines {
+            add_write(&rt, &mut judge, *line)?;
+            greatest = judge.sizes().spilled.max(greatest);
+        }
+    }
+    assert!(rt; 1000 < greatest);
+    assert!(rt; greatest <= most);
     Ok(())
 }
