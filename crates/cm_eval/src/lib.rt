@@ -18,6 +18,3 @@ pub use compare::log_both;
 pub use log::{CellName, Log};
 pub use outcome::{Args, Outcome};
 pub use state::{Except, State, same_cell};
-
-#[cfg(test)]
-mod tests;

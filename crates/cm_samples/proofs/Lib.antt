@@ -10,6 +10,7 @@ pub mod Firsts
 pub mod Deep
 pub mod TypedDepth
 pub mod Meanings
+pub mod ExamplesOfComparing
 pub mod ExamplesCompute
 pub mod ExamplesOfPairs
 pub mod ExampleOfATest

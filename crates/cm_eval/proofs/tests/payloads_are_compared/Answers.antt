@@ -1,8 +1,0 @@
-use Rattle.std.proofs.Common.{◌≡◌, pos, [], ◌∷◌, refl, ap, ◌∙◌}
-use Rattle.cm_value.specs.declared.value.Value.TheVariants as value
-use Rattle.cm_eval.specs.Run.{logged}
-use Rattle.cm_eval.proofs.Examples.{elem_compared, int_compared, rec_compared, none_compared, some_compared, out_elem, out_int, out_rec, out_some}
-use Rattle.cm_eval.proofs.tests.payloads_are_compared.Goals as goal
-
-pub returns : goal.returns
-returns c = λ t k. ap (logged []) (some_compared t (value.Elem 3) (value.Some (value.Elem 3)) k) ∙ rw (out_some (value.Elem 3)) (ap (logged (1 ∷ 1 ∷ [])) (elem_compared t 3 (value.Elem 3) k) ∙ rw (out_elem 3) refl)
