@@ -7,3 +7,4 @@ pub mod Types
 pub mod Expressions
 pub mod Statements
 pub mod Declarations
+pub mod Source
