@@ -24,36 +24,48 @@ pub ran_of : {words : List (List ℕ)} {o : Outside} {end : Status} (outcome : O
 ran_of outcome is ended = record { outcome = outcome; is = is; ended = ended }
 
 module _ {words : List (List ℕ)} {o : Outside} {end : Status} (ran : Ran words o end) where
-  pub answered : (task : Task) → IsTaskOf words task → IsEnd end → OfFiles o.held (inputs_of task) (IsAnswered task o.old o.new end)
+  pub answered : (task : Task) → IsTaskOf words task → IsEnd end
+      → OfFiles o.held (inputs_of task) (IsAnswered task o.old o.new end)
   answered task t fin =
       subst (λ s. OfFiles o.held (inputs_of task) (IsAnswered task o.old o.new s)) (sym ran.is)
-      (ending.answered task o ran.outcome (ending.with_task words o ran.outcome ran.ended task t) (subst IsEnd ran.is fin))
+      (ending.answered task o ran.outcome (ending.with_task words o ran.outcome ran.ended task t)
+      (subst IsEnd ran.is fin))
 
-  pub read_fault : (task : Task) → IsTaskOf words task → end ≡ status.ReadFault → SomeInput (HasRisen o) (inputs_of task) × (o.new ≡ o.old)
-  read_fault task t e = ending.read_fault task o ran.outcome (ending.with_task words o ran.outcome ran.ended task t) (sym ran.is ∙ e)
+  pub read_fault : (task : Task) → IsTaskOf words task → end ≡ status.ReadFault
+      → SomeInput (HasRisen o) (inputs_of task) × (o.new ≡ o.old)
+  read_fault task t e = ending.read_fault task o ran.outcome (ending.with_task words o ran.outcome ran.ended task t)
+      (sym ran.is ∙ e)
 
-  pub too_long : (task : Task) → IsTaskOf words task → end ≡ status.TooLong → SomeInput (IsTooLong o.held) (inputs_of task) × (o.new ≡ o.old)
-  too_long task t e = ending.too_long task o ran.outcome (ending.with_task words o ran.outcome ran.ended task t) (sym ran.is ∙ e)
+  pub too_long : (task : Task) → IsTaskOf words task → end ≡ status.TooLong
+      → SomeInput (IsTooLong o.held) (inputs_of task) × (o.new ≡ o.old)
+  too_long task t e = ending.too_long task o ran.outcome (ending.with_task words o ran.outcome ran.ended task t)
+      (sym ran.is ∙ e)
 
-  pub refused : (task : Task) → IsTaskOf words task → end ≡ status.Refused → OfFiles o.held (inputs_of task) (ending.AreRefused task) × (o.new ≡ o.old)
-  refused task t e = ending.refused task o ran.outcome (ending.with_task words o ran.outcome ran.ended task t) (sym ran.is ∙ e)
+  pub refused : (task : Task) → IsTaskOf words task → end ≡ status.Refused
+      → OfFiles o.held (inputs_of task) (ending.AreRefused task) × (o.new ≡ o.old)
+  refused task t e = ending.refused task o ran.outcome (ending.with_task words o ran.outcome ran.ended task t)
+      (sym ran.is ∙ e)
 
   pub write_fault : (task : Task) → IsTaskOf words task → end ≡ status.WriteFault
       → Rose o.put_before o.put_now × OfFiles o.held (inputs_of task) (IsCutShort task o.old o.new)
-  write_fault task t e = ending.write_fault task o ran.outcome (ending.with_task words o ran.outcome ran.ended task t) (sym ran.is ∙ e)
+  write_fault task t e = ending.write_fault task o ran.outcome (ending.with_task words o ran.outcome ran.ended task t)
+      (sym ran.is ∙ e)
 
   pub memory : (task : Task) → IsTaskOf words task → end ≡ status.Memory
       → (o.new ≡ o.old) ⊎ OfFiles o.held (inputs_of task) (IsCutShort task o.old o.new)
-  memory task t e = ending.memory task o ran.outcome (ending.with_task words o ran.outcome ran.ended task t) (sym ran.is ∙ e)
+  memory task t e = ending.memory task o ran.outcome (ending.with_task words o ran.outcome ran.ended task t)
+      (sym ran.is ∙ e)
 
   pub no_usage : (task : Task) → IsTaskOf words task → ¬ (end ≡ status.Usage)
-  no_usage task t e = ending.usage task o ran.outcome (ending.with_task words o ran.outcome ran.ended task t) (sym ran.is ∙ e)
+  no_usage task t e = ending.usage task o ran.outcome (ending.with_task words o ran.outcome ran.ended task t)
+      (sym ran.is ∙ e)
 
   pub no_over : ¬ (end ≡ status.Over)
   no_over e = ending.over ran.outcome (sym ran.is ∙ e)
 
   -- a run that had no task to run ended with Usage or Memory
-  early : (P : Type 0) → (end ≡ status.Usage → HasNoTask words → o.new ≡ o.old → P) → (end ≡ status.Memory → o.new ≡ o.old → P)
+  early : (P : Type 0) → (end ≡ status.Usage → HasNoTask words → o.new ≡ o.old → P)
+      → (end ≡ status.Memory → o.new ≡ o.old → P)
       → ((task : Task) → IsTaskOf words task → P) → P
   early P none short run = elim ran.ended [
     | inl usage ↦ none (ran.is ∙ (λ i. status_of (usage.0 i))) usage.1 usage.2
@@ -62,13 +74,15 @@ module _ {words : List (List ℕ)} {o : Outside} {end : Status} (ran : Ran words
   ]
 
   pub usage : end ≡ status.Usage → HasNoTask words
-  usage e = early (HasNoTask words) (λ s none same. none) (λ s same. let no : ⊥ = cc in absurd no) (λ task t. absurd (no_usage task t e))
+  usage e = early (HasNoTask words) (λ s none same. none) (λ s same. let no : ⊥ = cc in absurd no)
+      (λ task t. absurd (no_usage task t e))
 
   pub no_command : HasNoTask words → (end ≡ status.Usage) ⊎ (end ≡ status.Memory)
   no_command none = early _ (λ s is_none same. inl s) (λ s same. inr s) (λ task t. absurd (none task t))
 
   pub put_fails : end ≡ status.WriteFault → Rose o.put_before o.put_now
-  put_fails e = early _ (λ s none same. let no : ⊥ = cc in absurd no) (λ s same. let no : ⊥ = cc in absurd no) (λ task t. (write_fault task t e).0)
+  put_fails e = early _ (λ s none same. let no : ⊥ = cc in absurd no) (λ s same. let no : ⊥ = cc in absurd no)
+      (λ task t. (write_fault task t e).0)
 
   quiet_at : (task : Task) → IsTaskOf words task → IsQuiet end → o.new ≡ o.old
   quiet_at task t (inl e) = absurd (no_usage task t e)
@@ -94,8 +108,10 @@ status_cases status.Over P e r u f w m o t = o refl
 status_cases status.TooLong P e r u f w m o t = t refl
 
 -- a run on files that are told, none of which could not be read
-module _ {words : List (List ℕ)} {o : Outside} {end : Status} (ran : Ran words o end) (task : Task) (files : List (List ℕ))
-    (t : IsTaskOf words task) (held : AreHeld o.held (inputs_of task) files) (calm : ¬ SomeInput (HasRisen o) (inputs_of task)) where
+module _ {words : List (List ℕ)} {o : Outside} {end : Status} (ran : Ran words o end) (task : Task)
+    (files : List (List ℕ))
+    (t : IsTaskOf words task) (held : AreHeld o.held (inputs_of task) files)
+    (calm : ¬ SomeInput (HasRisen o) (inputs_of task)) where
   of : (P : List (List ℕ) → Type 0) → OfFiles o.held (inputs_of task) P → P files
   of P = ending.of_held o.held (inputs_of task) files P held
 
@@ -110,7 +126,8 @@ module _ {words : List (List ℕ)} {o : Outside} {end : Status} (ran : Ran words
       (λ s. absurd (no_over ran s))
       (λ s. inl s)
 
-  pub not_accepted : AreWithin (inputs_of task) files → ¬ Accepts task files → (end ≡ status.Refused) ⊎ (end ≡ status.Memory)
+  pub not_accepted : AreWithin (inputs_of task) files → ¬ Accepts task files
+      → (end ≡ status.Refused) ⊎ (end ≡ status.Memory)
   not_accepted within none = status_cases end _
       (λ s. let a = of _ (answered ran task t s) in absurd (none (ending.wanted_accepts task files a.1 end a.2)))
       (λ s. inl s)
@@ -121,7 +138,8 @@ module _ {words : List (List ℕ)} {o : Outside} {end : Status} (ran : Ran words
       (λ s. absurd (no_over ran s))
       (λ s. absurd (ending.not_long o.held (inputs_of task) files held within (too_long ran task t s).0))
 
-  pub complete : AreWithin (inputs_of task) files → Accepts task files → ¬ Rose o.put_before o.put_now → IsEnd end ⊎ (end ≡ status.Memory)
+  pub complete : AreWithin (inputs_of task) files → Accepts task files → ¬ Rose o.put_before o.put_now
+      → IsEnd end ⊎ (end ≡ status.Memory)
   complete within accepted put = status_cases end _
       (λ s. inl s)
       (λ s. absurd ((of _ (refused ran task t s).0).1 accepted))
@@ -133,7 +151,8 @@ module _ {words : List (List ℕ)} {o : Outside} {end : Status} (ran : Ran words
       (λ s. absurd (ending.not_long o.held (inputs_of task) files held within (too_long ran task t s).0))
 
 -- Usage is told of Usage alone
-pub told_usage : {end : Status} (Told : Outcome → Type 0) (outcome : Outcome) → end ≡ status_of outcome → Told outcome → end ≡ status.Usage → Told ends.Usage
+pub told_usage : {end : Status} (Told : Outcome → Type 0) (outcome : Outcome) → end ≡ status_of outcome → Told outcome
+    → end ≡ status.Usage → Told ends.Usage
 told_usage Told ends.Done is told e = let no : ⊥ = cc in absurd no
 told_usage Told ends.Conflicts is told e = let no : ⊥ = cc in absurd no
 told_usage Told ends.Usage is told e = told

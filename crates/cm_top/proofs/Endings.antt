@@ -20,34 +20,41 @@ use Rattle.cm_top.proofs.Judgements.{of_file_map}
 abbrev pub AreRefused : Task → List (List ℕ) → Type 0
 AreRefused task files = AreWithin (inputs_of task) files × ¬ Accepts task files
 
-some_map : (P Q : Input → Type 0) → ((i : Input) → P i → Q i) → (inputs : List Input) → SomeInput P inputs → SomeInput Q inputs
+some_map : (P Q : Input → Type 0) → ((i : Input) → P i → Q i) → (inputs : List Input) → SomeInput P inputs
+    → SomeInput Q inputs
 some_map P Q f [] some = some
 some_map P Q f (i ∷ is) (inl p) = inl (f i p)
 some_map P Q f (i ∷ is) (inr some) = inr (some_map P Q f is some)
 
 -- what the task reads is wanted of nothing else
-pub wanted_accepts : (task : Task) (files pieces : List (List ℕ)) (end : Status) → IsWanted task files pieces end → Accepts task files
+pub wanted_accepts : (task : Task) (files pieces : List (List ℕ)) (end : Status) → IsWanted task files pieces end
+    → Accepts task files
 wanted_accepts (Judge file) [] pieces end is = is
 wanted_accepts (Judge file) (bytes ∷ []) pieces end is = (is.0, is.2)
 wanted_accepts (Judge file) (bytes ∷ more ∷ files) pieces end is = is
 wanted_accepts Posix files pieces end is = tt
 
 -- a trace that was refused is no trace
-refuses : (task : Task) (held : List ℕ → Option (Option (List ℕ))) (file : List ℕ) (line : ℕ) → task ≡ Judge file → OfFile (held file) (IsRefusedAt line) → OfFiles held (inputs_of task) (AreRefused task)
+refuses : (task : Task) (held : List ℕ → Option (Option (List ℕ))) (file : List ℕ) (line : ℕ) → task ≡ Judge file
+    → OfFile (held file) (IsRefusedAt line) → OfFiles held (inputs_of task) (AreRefused task)
 refuses task held file line is told =
     subst (λ t. OfFiles held (inputs_of t) (AreRefused t)) (sym is)
-    (of_file_map (held file) (IsRefusedAt line) (λ bytes. AreRefused (Judge file) (bytes ∷ [])) (λ bytes r. ((r.0, tt), (λ accepted. r.1 accepted.0 accepted.1))) told)
+    (of_file_map (held file) (IsRefusedAt line) (λ bytes. AreRefused (Judge file) (bytes ∷ []))
+    (λ bytes r. ((r.0, tt), (λ accepted. r.1 accepted.0 accepted.1))) told)
 
 -- told files are those of which it is said
-pub of_held : (held : List ℕ → Option (Option (List ℕ))) (inputs : List Input) (files : List (List ℕ)) (P : List (List ℕ) → Type 0) → AreHeld held inputs files → OfFiles held inputs P → P files
+pub of_held : (held : List ℕ → Option (Option (List ℕ))) (inputs : List Input) (files : List (List ℕ))
+    (P : List (List ℕ) → Type 0) → AreHeld held inputs files → OfFiles held inputs P → P files
 of_held held [] [] P are of = of
 of_held held [] (bytes ∷ files) P are of = absurd are
 of_held held (i ∷ is) [] P are of = absurd are
 of_held held (i ∷ is) (bytes ∷ files) P are of =
-    of_held held is files (λ rest. P (bytes ∷ rest)) are.1 (subst (λ t. OfFile t (λ b. OfFiles held is (λ rest. P (b ∷ rest)))) are.0 of)
+    of_held held is files (λ rest. P (bytes ∷ rest)) are.1
+    (subst (λ t. OfFile t (λ b. OfFiles held is (λ rest. P (b ∷ rest)))) are.0 of)
 
 -- a file that is too long is not within
-pub not_long : (held : List ℕ → Option (Option (List ℕ))) (inputs : List Input) (files : List (List ℕ)) → AreHeld held inputs files → AreWithin inputs files → ¬ SomeInput (IsTooLong held) inputs
+pub not_long : (held : List ℕ → Option (Option (List ℕ))) (inputs : List Input) (files : List (List ℕ))
+    → AreHeld held inputs files → AreWithin inputs files → ¬ SomeInput (IsTooLong held) inputs
 not_long held [] files are within long = long
 not_long held (i ∷ is) [] are within long = are
 not_long held (i ∷ is) (bytes ∷ files) are within (inl long) =
@@ -56,7 +63,8 @@ not_long held (i ∷ is) (bytes ∷ files) are within (inl long) =
 not_long held (i ∷ is) (bytes ∷ files) are within (inr long) = not_long held is files are.1 within.1 long
 
 -- a file could not be read
-pub read_fault : (task : Task) (o : Outside) (outcome : Outcome) → IsEnding task o outcome → status_of outcome ≡ status.ReadFault
+pub read_fault : (task : Task) (o : Outside) (outcome : Outcome) → IsEnding task o outcome
+    → status_of outcome ≡ status.ReadFault
     → SomeInput (HasRisen o) (inputs_of task) × (o.new ≡ o.old)
 read_fault task o ends.Done ended is = let no : ⊥ = cc in absurd no
 read_fault task o ends.Conflicts ended is = let no : ⊥ = cc in absurd no
@@ -68,7 +76,8 @@ read_fault task o ends.WriteFault ended is = let no : ⊥ = cc in absurd no
 read_fault task o ends.Memory ended is = let no : ⊥ = cc in absurd no
 
 -- a file is too long
-pub too_long : (task : Task) (o : Outside) (outcome : Outcome) → IsEnding task o outcome → status_of outcome ≡ status.TooLong
+pub too_long : (task : Task) (o : Outside) (outcome : Outcome) → IsEnding task o outcome
+    → status_of outcome ≡ status.TooLong
     → SomeInput (IsTooLong o.held) (inputs_of task) × (o.new ≡ o.old)
 too_long task o ends.Done ended is = let no : ⊥ = cc in absurd no
 too_long task o ends.Conflicts ended is = let no : ⊥ = cc in absurd no
@@ -80,7 +89,8 @@ too_long task o ends.WriteFault ended is = let no : ⊥ = cc in absurd no
 too_long task o ends.Memory ended is = let no : ⊥ = cc in absurd no
 
 -- a file is not what the task reads
-pub refused : (task : Task) (o : Outside) (outcome : Outcome) → IsEnding task o outcome → status_of outcome ≡ status.Refused
+pub refused : (task : Task) (o : Outside) (outcome : Outcome) → IsEnding task o outcome
+    → status_of outcome ≡ status.Refused
     → OfFiles o.held (inputs_of task) (AreRefused task) × (o.new ≡ o.old)
 refused task o ends.Done ended is = let no : ⊥ = cc in absurd no
 refused task o ends.Conflicts ended is = let no : ⊥ = cc in absurd no
@@ -92,7 +102,8 @@ refused task o ends.WriteFault ended is = let no : ⊥ = cc in absurd no
 refused task o ends.Memory ended is = let no : ⊥ = cc in absurd no
 
 -- the output could not be written
-pub write_fault : (task : Task) (o : Outside) (outcome : Outcome) → IsEnding task o outcome → status_of outcome ≡ status.WriteFault
+pub write_fault : (task : Task) (o : Outside) (outcome : Outcome) → IsEnding task o outcome
+    → status_of outcome ≡ status.WriteFault
     → Rose o.put_before o.put_now × OfFiles o.held (inputs_of task) (IsCutShort task o.old o.new)
 write_fault task o ends.Done ended is = let no : ⊥ = cc in absurd no
 write_fault task o ends.Conflicts ended is = let no : ⊥ = cc in absurd no
@@ -104,7 +115,8 @@ write_fault task o ends.WriteFault ended is = ended
 write_fault task o ends.Memory ended is = let no : ⊥ = cc in absurd no
 
 -- memory ran out
-pub memory : (task : Task) (o : Outside) (outcome : Outcome) → IsEnding task o outcome → status_of outcome ≡ status.Memory
+pub memory : (task : Task) (o : Outside) (outcome : Outcome) → IsEnding task o outcome
+    → status_of outcome ≡ status.Memory
     → (o.new ≡ o.old) ⊎ OfFiles o.held (inputs_of task) (IsCutShort task o.old o.new)
 memory task o ends.Done ended is = let no : ⊥ = cc in absurd no
 memory task o ends.Conflicts ended is = let no : ⊥ = cc in absurd no

@@ -28,12 +28,15 @@ all_parts (x ∷ xs) ys all =
     let rest = all_parts xs ys (All-tail IsItem x (xs ++ ys) all) in
     (All-cons IsItem x xs (All-head IsItem x (xs ++ ys) all) rest.0, rest.1)
 
-pub one_more : (before its : List Item) (i : ℕ) (d : Item) → i < length its → (before ++ take i its) ++ get_or its i d ∷ [] ≡ before ++ take (i + 1) its
-one_more before its i d within = append_assoc before (take i its) (get_or its i d ∷ []) ∙ ap (λ l. before ++ l) (sym (take_more its i d within))
+pub one_more : (before its : List Item) (i : ℕ) (d : Item) → i < length its
+    → (before ++ take i its) ++ get_or its i d ∷ [] ≡ before ++ take (i + 1) its
+one_more before its i d within = append_assoc before (take i its) (get_or its i d ∷ []) ∙
+    ap (λ l. before ++ l) (sym (take_more its i d within))
 
 -- a first bad line stays the first
 pub names_on : (text piece : List ℕ) (fault : TraceFault) → NamesFirst text fault → NamesFirst (text ++ piece) fault
-names_on text piece (BadLine line) names = λ more. subst (λ t. IsFirstBad t line) (sym (append_assoc text piece more)) (names (piece ++ more))
+names_on text piece (BadLine line) names =
+    λ more. subst (λ t. IsFirstBad t line) (sym (append_assoc text piece more)) (names (piece ++ more))
 names_on text piece Memory names = tt
 
 pub names_bad : (text : List ℕ) (line : ℕ) → NamesFirst text (BadLine line) → IsFirstBad text line
@@ -45,8 +48,10 @@ ends_bad text (BadLine line) bad = bad
 ends_bad text Memory bad = tt
 
 -- a reader that has a fault answers it
-pub same_fault : {T : Type 0} (old : Option TraceFault) (f g : TraceFault) (r : Result T TraceFault) → old ≡ Some f → r ≡ Err g → IfSome old (λ h. r ≡ Err h) → g ≡ f
+pub same_fault : {T : Type 0} (old : Option TraceFault) (f g : TraceFault) (r : Result T TraceFault) → old ≡ Some f
+    → r ≡ Err g → IfSome old (λ h. r ≡ Err h) → g ≡ f
 same_fault old f g r is fails again = let a = rw is at again in cc
 
-pub refused_end : (text : List ℕ) (line : ℕ) (fault : TraceFault) → NamesFirst text (BadLine line) → fault ≡ BadLine line → NamesBad text fault
+pub refused_end : (text : List ℕ) (line : ℕ) (fault : TraceFault) → NamesFirst text (BadLine line)
+    → fault ≡ BadLine line → NamesBad text fault
 refused_end text line fault names is = subst (NamesBad text) (sym is) (names_bad text line names)

@@ -7,6 +7,7 @@ use Rattle.cm_top.proofs.emit.put_sections.Given as goal
 -- the pieces so far were taken
 abbrev pub invariant-loop-section : goal.invariant-loop-section
 invariant-loop-section g l = record {
-  taken : Appends (g.O.Sink.written l.initial.out) (g.O.Sink.written l.out) (joined (map piece_of (take l.section-index l.judged)));
+  taken : Appends (g.O.Sink.written l.initial.out) (g.O.Sink.written l.out)
+      (joined (map piece_of (take l.section-index l.judged)));
   later : g.O.Sink.faults l.initial.out ≤ g.O.Sink.faults l.out;
 }

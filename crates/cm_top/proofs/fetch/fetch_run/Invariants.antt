@@ -7,7 +7,8 @@ use Rattle.cm_top.proofs.fetch.fetch_run.Given as goal
 -- the run has read the file's front, and no count fell
 abbrev pub invariant-pieces : goal.invariant-pieces
 invariant-pieces g l = record {
-  read : (text : List ℕ) × (length text ≡ l.from) × HoldsFront (g.S.Shelf.held l.initial.shelf l.name) text × HasRead l.run text;
+  read : (text : List ℕ) × (length text ≡ l.from) × HoldsFront (g.S.Shelf.held l.initial.shelf l.name) text
+      × HasRead l.run text;
   counted : count_of l.run ≤ l.from;
   short : l.from ≤ 1073741824;
   room : length l.buf.items ≡ 32768;

@@ -10,4 +10,5 @@ returns-in-Err-BadLine-clause-refused g c line is =
     let same : c.in-Err-BadLine.line ≡ line = cc in
     let read = c.in-Ok.ensures.read in
     let bad = rw c.in-Err-BadLine.field-0-is at c.in-Err-BadLine.ensures.bad in
-    of_file told (IsRefusedAt line) read.0 read.2 (subst (λ l. IsRefusedAt l read.0) same (refused_at c.in-Err-BadLine.line read.0 read.1 (bad read.0 read.3)))
+    of_file told (IsRefusedAt line) read.0 read.2
+    (subst (λ l. IsRefusedAt l read.0) same (refused_at c.in-Err-BadLine.line read.0 read.1 (bad read.0 read.3)))

@@ -5,4 +5,5 @@ use Rattle.cm_top.proofs.judge.status_for.Given as goal
 
 -- no section so far has a conflict line
 abbrev pub invariant-loop-section : goal.invariant-loop-section
-invariant-loop-section l = judge_status (lines_of_all (drop l.section-index l.judged)) ≡ judge_status (lines_of_all l.judged)
+invariant-loop-section l =
+    judge_status (lines_of_all (drop l.section-index l.judged)) ≡ judge_status (lines_of_all l.judged)

@@ -10,8 +10,13 @@ use Rattle.cm_top.proofs.posix.run.Goals as goal
 pub returns-in-Ok : goal.returns-in-Ok
 returns-in-Ok g c held before now =
     let old = g.O.Sink.written c.args.out.now in
-    let new = g.O.Sink.written c.put_piece.new.out in
-    (tt, posix_model ∷ [], (refl, refl), subst (Appends old new) (c.posix_text.ensures ∙ sym (append-nil posix_model)) c.in-Ok.ensures.taken)
+    let new = g.O.Sink.written c.put_piece.new.out in (
+      tt,
+      posix_model ∷ [],
+      (refl, refl),
+      subst (Appends old new)
+          (c.posix_text.ensures ∙ sym (append-nil posix_model)) c.in-Ok.ensures.taken,
+    )
 
 pub returns-in-Err-WriteFault : goal.returns-in-Err-WriteFault
 returns-in-Err-WriteFault g c held before now =

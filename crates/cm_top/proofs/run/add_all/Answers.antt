@@ -1,9 +1,8 @@
-use Rattle.std.proofs.Common.{◌≡◌, ◌++◌, [], List, ap, sym, subst, ◌∙◌, append_assoc, append-nil, rules}
+use Rattle.std.proofs.Common.{◌≡◌, ◌++◌, [], ap, sym, subst, ◌∙◌, append_assoc, append-nil, rules}
 use Rattle.std.proofs.lemmas.List.{nil_from_length}
 use Rattle.std.specs.List.{All}
 use Rattle.std.specs.Slice.Iter.{chunks_rest}
 use Rattle.cm_mtrace.specs.Trace.{IsItem}
-use Rattle.cm_mtrace.specs.declared.Item.{Item}
 use Rattle.cm_top.specs.Sections.{Have}
 use Rattle.cm_top.proofs.Runs.{all_parts}
 use Rattle.cm_top.proofs.run.add_all.Goals as goal
@@ -22,7 +21,8 @@ loop-batch-init c =
 pub add_batch-requires : goal.add_batch-requires
 add_batch-requires c =
     let steps = c.in-Some.ensures.steps in
-    (all_parts c.in-Some.batch.now (chunks_rest c.next.new.self) (subst (All IsItem) steps.1.0 c.loop-batch.invariant.4)).0
+    (all_parts c.in-Some.batch.now (chunks_rest c.next.new.self)
+    (subst (All IsItem) steps.1.0 c.loop-batch.invariant.4)).0
 
 pub loop-batch-preserved : goal.loop-batch-preserved
 loop-batch-preserved c =
@@ -47,5 +47,6 @@ pub returns : goal.returns
 returns c before all have is =
     let so_far = c.loop-batch.invariant in
     let none = nil_from_length (chunks_rest c.loop-batch.batch-iterator) c.in-None.ensures.steps.1.0 in
-    let whole : so_far.2 ≡ c.args.items.now = sym (append-nil so_far.2) ∙ ap (λ l. so_far.2 ++ l) (sym none) ∙ so_far.3 in
+    let whole : so_far.2 ≡ c.args.items.now = sym (append-nil so_far.2) ∙ ap (λ l. so_far.2 ++ l) (sym none) ∙
+    so_far.3 in
     subst (λ l. Have c.loop-batch.sections (before ++ l)) whole (so_far.5 before all have is)

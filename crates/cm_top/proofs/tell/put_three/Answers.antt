@@ -4,8 +4,10 @@ use Rattle.cm_top.proofs.tell.put_three.Goals as goal
 
 pub returns-in-Err-put-clause-taken : goal.returns-in-Err-put-clause-taken
 returns-in-Err-put-clause-taken g c =
-    part_last (g.O.Sink.written c.args.out.now) (g.O.Sink.written c.put_both.new.out) (g.O.Sink.written c.put.new.self) (c.args.first.now ++ c.args.second.now) c.args.third.now c.in-Ok.ensures.taken c.in-Err-put.ensures.taken
+    part_last (g.O.Sink.written c.args.out.now) (g.O.Sink.written c.put_both.new.out) (g.O.Sink.written c.put.new.self)
+    (c.args.first.now ++ c.args.second.now) c.args.third.now c.in-Ok.ensures.taken c.in-Err-put.ensures.taken
 
 pub returns-in-Err-clause-taken : goal.returns-in-Err-clause-taken
 returns-in-Err-clause-taken g c =
-    part_first (g.O.Sink.written c.args.out.now) (g.O.Sink.written c.put_both.new.out) (c.args.first.now ++ c.args.second.now) c.args.third.now c.in-Err.ensures.taken
+    part_first (g.O.Sink.written c.args.out.now) (g.O.Sink.written c.put_both.new.out)
+    (c.args.first.now ++ c.args.second.now) c.args.third.now c.in-Err.ensures.taken

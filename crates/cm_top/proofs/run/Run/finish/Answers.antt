@@ -8,5 +8,7 @@ returns-in-Err-clause-bad c text has =
       | inl goes ↦ ends_bad text c.in-Err.fault (c.in-Err.ensures.bad text goes.stands)
       | inr refused ↦
           let f = refused.fault in
-          refused_end text f.0 c.in-Err.fault f.2 (same_fault c.args.self.reader.fault _ c.in-Err.fault c.finish.result f.1 c.in-Err.is c.finish.ensures.again)
+          refused_end text f.0 c.in-Err.fault f.2
+          (same_fault c.args.self.reader.fault _ c.in-Err.fault c.finish.result f.1 c.in-Err.is
+          c.finish.ensures.again)
     ]
