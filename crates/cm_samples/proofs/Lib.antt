@@ -6,6 +6,7 @@ pub mod TypedRegisters
 pub mod TypedFunctions
 pub mod TypedPoints
 pub mod TypedOptions
+pub mod TypedKinds
 pub mod Firsts
 pub mod Deep
 pub mod TypedDepth

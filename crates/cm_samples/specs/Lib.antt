@@ -5,6 +5,7 @@ pub mod Registers
 pub mod Functions
 pub mod Points
 pub mod Options
+pub mod Kinds
 pub mod Depth
 pub mod Yes
 pub mod Examples
