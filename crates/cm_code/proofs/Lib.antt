@@ -1,0 +1,7 @@
+mod Places
+mod RightForms
+pub mod RightTurns
+mod Writing
+mod Taking
+pub mod Going
+mod Samples
