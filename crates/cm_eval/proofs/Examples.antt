@@ -8,7 +8,7 @@ use Rattle.cm_value.proofs.Folds.{fold-elem, fold-int, fold-tag, fold-rec, fold-
 use Rattle.cm_eval.specs.State.{Touched}
 use Rattle.cm_eval.specs.Comparison.{Comparing, comparison_step}
 use Rattle.cm_eval.specs.Run.{Trace, Blocked, Logs}
-use Rattle.cm_eval.specs.Going.{compared_in}
+use Rattle.cm_eval.specs.inner.Going.{compared_in}
 
 pub out_elem : (n : ℕ) → out-Value (value.Elem n) ≡ Value-F.Elem n
 out_elem n = ap out-Value (sym (value.rolls-Elem n)) ∙ out-roll-Value (Value-F.Elem n)

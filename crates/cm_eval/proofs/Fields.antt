@@ -5,7 +5,7 @@ use Rattle.cm_value.specs.declared.value.Value.{Value}
 use Rattle.cm_eval.specs.Comparison.{fields_compared}
 use Rattle.cm_eval.specs.State.{Touched}
 use Rattle.cm_eval.specs.Run.{Trace, Blocked, Stopped, logged}
-use Rattle.cm_eval.specs.Going.{Compares, ComparesAll, compared_in, ended_by}
+use Rattle.cm_eval.specs.inner.Going.{Compares, ComparesAll, compared_in, ended_by}
 
 -- what is left to compare from the i-th field on
 abbrev pub rest : Touched → List Value → List Value → ℕ → (Bool → Trace) → Trace

@@ -9,10 +9,8 @@ use Rattle.cm_eval.specs.Script.{Blocks, Decides}
 use Rattle.cm_eval.specs.State.{Store, Touched}
 use Rattle.cm_eval.specs.Comparison.{Comparing, comparison, comparison_step, fields_compared, payload_compared, or_stop, elem_of, int_of, tag_of, parts_of, option_of, variant, distinguished, ordered, presence}
 use Rattle.cm_eval.specs.Evaluation.{Doing}
-use Rattle.cm_eval.specs.Run.{Trace, Blocked, Logs, Stopped, logged, run}
-use Rattle.cm_eval.specs.declared.log.Log.{Log}
-use Rattle.cm_eval.specs.declared.rules.Rules.{Rules}
-use Rattle.cm_eval.specs.Going.{Compares, Gives, compared_in, goes_on, stopped, ended_by, touched_of}
+use Rattle.cm_eval.specs.Run.{Trace, Blocked, Logs, logged, run}
+use Rattle.cm_eval.specs.inner.Going.{Compares, Decided, compared_in}
 use Rattle.cm_eval.proofs.Folds.{fold_related, Related}
 
 module _ (ints : List IntDecl) (states : List StateDecl) (s : Store) (t : Touched) where
@@ -98,16 +96,10 @@ module _ (ints : List IntDecl) (states : List StateDecl) (s : Store) (t : Touche
       forms y w k ∙ ap (λ (m : Comparing Trace). m w (λ b. go (k b)))
       (sym (fold-roll-Value (Comparing Trace) (comparison_step Trace (Blocked t) (λ d more. Logs t d (more d))) (values y))))
 
--- what came of a comparison, as a step of the evaluator
-pub compared_gives : (r : Rules) (s : Store) (l : Log) (v w : Value) (o : Option Bool) (steps : List ℕ) → Compares v w o l.steps steps
-    → Gives r (comparison Doing Blocks Decides v w) o s l s (record l { steps = steps })
-compared_gives r s l v w o steps h = record {
-  on = λ k.
-      ap (logged l.steps) (natural r.ints.now r.states.now s (touched_of l) v w k)
-      ∙ h (touched_of l) (λ b. run r.ints.now r.states.now s (touched_of l) (k b)) ∙ by_answer o k;
+-- what came of a comparison, as a decision of a run
+pub compared_decided : (v w : Value) (o : Option Bool) (log after : List ℕ) → Compares v w o log after
+    → Decided (comparison Doing Blocks Decides v w) o log after
+compared_decided v w o log after h = record {
+  on = λ ints states s t k.
+      ap (logged log) (natural ints states s t v w k) ∙ h t (λ b. run ints states s t (k b));
 }
-  where
-    by_answer : (q : Option Bool) (k : Bool → Doing) → ended_by q (λ b. logged steps (run r.ints.now r.states.now s (touched_of l) (k b))) (Stopped (touched_of l) steps)
-        ≡ ended_by q (λ b. goes_on r s (record l { steps = steps }) (k b)) (stopped (record l { steps = steps }))
-    by_answer (Some b) k = refl
-    by_answer None k = refl

@@ -3,7 +3,7 @@ use Rattle.std.proofs.Common.{◌≡◌, ℕ, zero, suc, ◌<◌, true, false, L
 use Rattle.cm_eval.specs.declared.log.CellName.{CellName}
 use Rattle.cm_eval.specs.declared.state.Except.{Except}
 use Rattle.cm_eval.specs.State.{same_cell}
-use Rattle.cm_eval.specs.Places.{Finds}
+use Rattle.cm_eval.specs.inner.Places.{Finds}
 use Rattle.cm_eval.proofs.Same.{same_cell_equal}
 
 -- none of the first n exceptions is for the cell

@@ -1,57 +1,76 @@
 -- What a touch makes of a read and of a write, and an invariant's run beside what is asked of it.
-use Rattle.std.proofs.Common.{◌≡◌, ℕ, Bool, true, false, List, [], ◌∷◌, ◌++◌, Option, Some, None, slice_get, refl, sym, ap, ◌∙◌, if◌then◌else◌}
+use Rattle.std.proofs.Common.{◌≡◌, ℕ, zero, suc, Bool, true, false, List, [], ◌∷◌, ◌++◌, map, Option, Some, None, IsTrue, ◌↔◌, slice_get, refl, sym, ap, ◌∙◌, if◌then◌else◌}
+use Rattle.cm_model.specs.Tables.{Tables}
 use Rattle.cm_model.specs.declared.ty.IntDecl.{IntDecl}
 use Rattle.cm_model.specs.declared.body.Expr.{Expr}
 use Rattle.cm_model.specs.declared.body.StateDecl.{StateDecl}
 use Rattle.cm_value.specs.declared.value.Value.{Value}
+use Rattle.cm_code.specs.declared.instr.Instr.{Instr}
+use Rattle.cm_code.specs.Compiling.{invariant_code}
+use Rattle.cm_eval.specs.declared.code.Code.{Code}
 use Rattle.cm_eval.specs.declared.log.CellName.{CellName}
 use Rattle.cm_eval.specs.declared.log.Log.{Log}
-use Rattle.cm_eval.specs.declared.rules.Rules.{Rules}
 use Rattle.cm_eval.specs.Script.{Replies, Blocks, Decides, Reads, Writes}
-use Rattle.cm_eval.specs.State.{Store, Touched, look_up, put, marked}
-use Rattle.cm_eval.specs.Evaluation.{Doing, bool, meanings, meaning_of, inspected, replies_if, invariant_of}
-use Rattle.cm_eval.specs.Run.{Trace, End, Ended, Stopped, logged, run, touched_at, touched_with, asked}
-use Rattle.cm_eval.specs.Going.{Gives, Touches, Asks, goes_on, stopped, ended_by, touched_of, doing_of}
+use Rattle.cm_eval.specs.State.{Store, Touched, store, look_up, put, marked}
+use Rattle.cm_eval.specs.Evaluation.{Doing, invariant_of}
+use Rattle.cm_eval.specs.Run.{Trace, Replied, End, Ended, Stopped, logged, run, touched_at, touched_with, asked, checked}
+use Rattle.cm_eval.specs.Invariant.{MeetsInvariant, invariant_holds, declared_invariant, replies}
+use Rattle.cm_eval.specs.Ended.{touched_of, stopped}
+use Rattle.cm_eval.specs.Compiled.{IsCodeOf, invariant_code_of}
+use Rattle.cm_eval.specs.inner.Going.{Gives, Touches, Asks, InvariantRan, goes_on, ended_by}
 
-module _ (r : Rules) (c : CellName) (d : StateDecl) (v : Value) (s : Store) (l after : Log) (o : Option ℕ)
-    (declared : slice_get r.states.now c.state ≡ Some d) (there : look_up s c ≡ Some v) (touch : Touches r d v c o l after) where
-  reached : (k : Value → ℕ → Touched → Trace) → logged l.steps (touched_at r.ints.now r.states.now s c (touched_of l) k)
+-- a state with code is declared, and the code is its invariant's
+pub record Declared (t : Tables) (i : ℕ) (code : Option (List Instr)) : Type 0 where
+  pub state : StateDecl
+  pub there : slice_get t.states i ≡ Some state
+  pub coded : code ≡ invariant_code_of t.ints state.inv
+
+pub declared_of : (t : Tables) (c : Code) (i : ℕ) (code : Option (List Instr)) → IsCodeOf t c → slice_get c.invariants i ≡ Some code → Declared t i code
+declared_of t c i code is got =
+    let d = here t.states i (sym (ap (λ l. slice_get l i) is.invariants) ∙ got) in
+    record { state = d.0; there = d.1; coded = d.2 }
+  where
+    here : (ds : List StateDecl) (i : ℕ) → slice_get (map (λ d. invariant_code_of t.ints d.inv) ds) i ≡ Some code
+        → (d : StateDecl) × (slice_get ds i ≡ Some d) × (code ≡ invariant_code_of t.ints d.inv)
+    here [] i e = absurd (cc)
+    here (d ∷ ds) zero e = (d, refl, cc)
+    here (d ∷ ds) (suc i) e = here ds i e
+
+module _ (t : Tables) (c : CellName) (e : Option (List Instr)) (v : Value) (s : Store) (l after : Log) (o : Option ℕ)
+    (d : Declared t c.state e) (there : look_up s c ≡ Some v) (touch : Touches t.ints d.state.inv v c o l after) where
+  reached : (k : Value → ℕ → Touched → Trace) → logged l.steps (touched_at t.ints t.states s c (touched_of l) k)
       ≡ ended_by o (λ i. logged after.steps (k v i (touched_of after))) (stopped after)
   reached k =
-      ap (λ e. logged l.steps (touched_with r.ints.now e (look_up s c) c (touched_of l) k)) declared
-      ∙ ap (λ e. logged l.steps (touched_with r.ints.now (Some d) e c (touched_of l) k)) there ∙ touch (k v)
+      ap (λ e. logged l.steps (touched_with t.ints e (look_up s c) c (touched_of l) k)) d.there
+      ∙ ap (λ e. logged l.steps (touched_with t.ints (Some d.state) e c (touched_of l) k)) there ∙ touch (k v)
 
-  pub read_gives : (i : ℕ) → o ≡ Some i → Gives r (Reads c) (Some v) s l s after
+  pub read_gives : (i : ℕ) → o ≡ Some i → Gives t (Reads c) (Some v) s l after
   read_gives i is = record {
     on = λ k.
-        reached (λ w j t. run r.ints.now r.states.now s t (k w)) ∙ ap (λ q. ended_by q (λ j. goes_on r s after (k v)) (stopped after)) is;
+        reached (λ w j u. run t.ints t.states s u (k w)) ∙ ap (λ q. ended_by q (λ j. goes_on t s after (k v)) (stopped after)) is;
   }
 
-  pub read_halts : o ≡ None → Gives r (Reads c) None s l s after
+  pub read_halts : o ≡ None → Gives t (Reads c) None s l after
   read_halts is = record {
     on = λ k.
-        reached (λ w j t. run r.ints.now r.states.now s t (k w)) ∙ ap (λ q. ended_by q (λ j. goes_on r s after (k v)) (stopped after)) is;
+        reached (λ w j u. run t.ints t.states s u (k w)) ∙ ap (λ q. ended_by q (λ j. goes_on t s after (k v)) (stopped after)) is;
   }
 
-  pub write_halts : (x : Value) → o ≡ None → (doing : Doing) → goes_on r s l (Writes c x doing) ≡ stopped after
+  pub write_halts : (x : Value) → o ≡ None → (doing : Doing) → goes_on t s l (Writes c x doing) ≡ stopped after
   write_halts x is doing =
-      reached (λ w j t. run r.ints.now r.states.now (put s c x) (marked t j) doing)
-      ∙ ap (λ q. ended_by q (λ j. logged after.steps (run r.ints.now r.states.now (put s c x) (marked (touched_of after) j) doing)) (stopped after)) is
+      reached (λ w j u. run t.ints t.states (put s c x) (marked u j) doing)
+      ∙ ap (λ q. ended_by q (λ j. logged after.steps (run t.ints t.states (put s c x) (marked (touched_of after) j) doing)) (stopped after)) is
 
-  pub write_goes : (x : Value) (i : ℕ) → o ≡ Some i → (doing : Doing) → goes_on r s l (Writes c x doing)
-      ≡ logged after.steps (run r.ints.now r.states.now (put s c x) (marked (touched_of after) i) doing)
+  pub write_goes : (x : Value) (i : ℕ) → o ≡ Some i → (doing : Doing) → goes_on t s l (Writes c x doing)
+      ≡ logged after.steps (run t.ints t.states (put s c x) (marked (touched_of after) i) doing)
   write_goes x i is doing =
-      reached (λ w j t. run r.ints.now r.states.now (put s c x) (marked t j) doing)
-      ∙ ap (λ q. ended_by q (λ j. logged after.steps (run r.ints.now r.states.now (put s c x) (marked (touched_of after) j) doing)) (stopped after)) is
+      reached (λ w j u. run t.ints t.states (put s c x) (marked u j) doing)
+      ∙ ap (λ q. ended_by q (λ j. logged after.steps (run t.ints t.states (put s c x) (marked (touched_of after) j) doing)) (stopped after)) is
 
 -- how a run ends that is asked of an invariant
 abbrev after_end : Touched → Trace → End → End
 after_end t more (Ended v s u log) = logged log more
 after_end t more (Stopped u log) = Stopped t log
-
-abbrev touched_in : End → Touched
-touched_in (Ended v s t log) = t
-touched_in (Stopped t log) = t
 
 asked_end : (ints : List IntDecl) (s : Store) (t : Touched) (d : Doing) (more : Trace) (log : List ℕ)
     → logged log (asked t d more) ≡ after_end t more (logged log (run ints [] s t d))
@@ -61,69 +80,57 @@ asked_end ints s t (Decides d k) more log = asked_end ints s t (k d) more (log +
 asked_end ints s t (Reads c k) more log = refl
 asked_end ints s t (Writes c v k) more log = refl
 
-cells_kept : (ints : List IntDecl) (s : Store) (t : Touched) (d : Doing) (log : List ℕ) → touched_in (logged log (run ints [] s t d)) ≡ t
-cells_kept ints s t (Replies v) log = refl
-cells_kept ints s t Blocks log = refl
-cells_kept ints s t (Decides d k) log = cells_kept ints s t (k d) (log ++ d ∷ [])
-cells_kept ints s t (Reads c k) log = refl
-cells_kept ints s t (Writes c v k) log = refl
+-- what is asked of a cell that is new, by the run of its invariant
+pub asks_ran : (ints : List IntDecl) (e : Expr) (v : Value) (b : Bool) (l : Log) (after : List ℕ) → InvariantRan ints e v b l.steps after
+    → Asks ints (Some e) v b l (record l { steps = after })
+asks_ran ints e v b l after ran = (
+  refl,
+  λ more.
+      let r = ran (store [] []) (touched_of l) in
+      asked_end ints (store [] []) (touched_of l) (invariant_of ints e v) more l.steps
+      ∙ ap (after_end (touched_of l) more) r.1 ∙ chosen r.0 more b,
+)
+  where
+    chosen : (w : Value) (more : Trace) (b : Bool)
+        → after_end (touched_of l) more (if b then Ended w (store [] []) (touched_of l) after else Stopped (touched_of l) after)
+        ≡ (if b then logged after more else Stopped (touched_of l) after)
+    chosen w more true = refl
+    chosen w more false = refl
 
-no_meanings : (ints : List IntDecl) → meanings ints [] ≡ []
-unfolding meanings
-no_meanings ints = refl
+pub asks_coded : (ints : List IntDecl) (e : Option Expr) (code : List Instr) (v : Value) (b : Bool) (l : Log) (after : List ℕ)
+    → Some code ≡ invariant_code_of ints e
+    → ((ints : List IntDecl) (e : Expr) → code ≡ invariant_code ints e → InvariantRan ints e v b l.steps after)
+    → Asks ints e v b l (record l { steps = after })
+asks_coded ints None code v b l after is ran = absurd (cc)
+asks_coded ints (Some e) code v b l after is ran = asks_ran ints e v b l after (ran ints e (cc))
 
--- an invariant was evaluated with no functions and no states
-module _ (r plain : Rules) (e : Expr) (v : Value) (locals : List Value) (s t : Store) (l after : Log) (o : Option Bool)
-    (one : locals ≡ v ∷ []) (ints : plain.ints.now ≡ r.ints.now) (funs : plain.funs.now ≡ []) (states : plain.states.now ≡ [])
-    (g : Gives plain (inspected (doing_of plain e) locals) o s l t after) where
-  -- how it ends, by the bool
-  abbrev ended : Bool → End
-  ended true = Ended (bool true) t (touched_of after) after.steps
-  ended false = stopped after
+abbrev is_ended : End → Bool
+is_ended (Ended v s t log) = true
+is_ended (Stopped t log) = false
 
-  ends : (is : List IntDecl) (ds : List StateDecl) (q : Option Bool)
-      → ended_by q (λ b. logged after.steps (run is ds t (touched_of after) (replies_if b))) (stopped after) ≡ ended_by q ended (stopped after)
-  ends is ds (Some true) = refl
-  ends is ds (Some false) = refl
-  ends is ds None = refl
+asked_says : (v : Value) (s : Store) (t : Touched) (d : Doing) (log : List ℕ) → is_ended (logged log (asked t d (Replied v s t))) ≡ replies d
+asked_says v s t (Replies w) log = refl
+asked_says v s t Blocks log = refl
+asked_says v s t (Decides d k) log = asked_says v s t (k d) (log ++ d ∷ [])
+asked_says v s t (Reads c k) log = refl
+asked_says v s t (Writes c w k) log = refl
 
-  ran : logged l.steps (run r.ints.now [] s (touched_of l) (invariant_of r.ints.now e v)) ≡ ended_by o ended (stopped after)
-  ran =
-      sym (ap (λ i. logged l.steps (run i plain.states.now s (touched_of l) (inspected (meaning_of i (meanings i plain.funs.now) e) locals replies_if))) ints
-      ∙ ap (λ f. logged l.steps (run r.ints.now plain.states.now s (touched_of l) (inspected (meaning_of r.ints.now (meanings r.ints.now f) e) locals replies_if))) funs
-      ∙ ap (λ m. logged l.steps (run r.ints.now plain.states.now s (touched_of l) (inspected (meaning_of r.ints.now m e) locals replies_if))) (no_meanings r.ints.now)
-      ∙ ap (λ x. logged l.steps (run r.ints.now x s (touched_of l) (inspected (meaning_of r.ints.now [] e) locals replies_if))) states
-      ∙ ap (λ x. logged l.steps (run r.ints.now [] s (touched_of l) (inspected (meaning_of r.ints.now [] e) x replies_if))) one)
-      ∙ g.on replies_if ∙ ends plain.ints.now plain.states.now o
+checked_says : (ints : List IntDecl) (inv : Option Expr) (v : Value) (s : Store) (t : Touched) (log : List ℕ)
+    → is_ended (logged log (checked ints inv v t (Replied v s t))) ≡ invariant_holds ints inv v
+checked_says ints None v s t log = refl
+checked_says ints (Some e) v s t log = asked_says v s t (invariant_of ints e v) log
 
-  same_cells : touched_of after ≡ touched_of l
-  same_cells = by_answer o ran
-    where
-      by_answer : (q : Option Bool) → logged l.steps (run r.ints.now [] s (touched_of l) (invariant_of r.ints.now e v)) ≡ ended_by q ended (stopped after)
-          → touched_of after ≡ touched_of l
-      by_answer (Some true) h = sym (ap touched_in h) ∙ cells_kept r.ints.now s (touched_of l) (invariant_of r.ints.now e v) l.steps
-      by_answer (Some false) h = sym (ap touched_in h) ∙ cells_kept r.ints.now s (touched_of l) (invariant_of r.ints.now e v) l.steps
-      by_answer None h = sym (ap touched_in h) ∙ cells_kept r.ints.now s (touched_of l) (invariant_of r.ints.now e v) l.steps
+ask_says : (ints : List IntDecl) (inv : Option Expr) (v : Value) (b : Bool) (l after : Log) → Asks ints inv v b l after → b ≡ invariant_holds ints inv v
+ask_says ints inv v b l after h =
+    sym (chosen b) ∙ sym (ap is_ended (h.1 (Replied v (store [] []) (touched_of l)))) ∙ checked_says ints inv v (store [] []) (touched_of l) l.steps
+  where
+    chosen : (q : Bool) → is_ended (if q then logged after.steps (Replied v (store [] []) (touched_of l)) else stopped after) ≡ q
+    chosen true = refl
+    chosen false = refl
 
-  chosen : (more : Trace) (b : Bool) → after_end (touched_of l) more (ended b) ≡ (if b then logged after.steps more else Stopped (touched_of l) after.steps)
-  chosen more true = refl
-  chosen more false = refl
-
-  pub asks_some : (b : Bool) → o ≡ Some b → Asks r (Some e) v b l after
-  asks_some b is = (
-    same_cells,
-    λ more.
-        asked_end r.ints.now s (touched_of l) (invariant_of r.ints.now e v) more l.steps
-        ∙ ap (after_end (touched_of l) more) (ran ∙ ap (λ q. ended_by q ended (stopped after)) is)
-        ∙ chosen more b
-        ∙ ap (λ u. if b then logged after.steps more else Stopped u after.steps) (sym same_cells),
-  )
-
-  pub asks_none : o ≡ None → Asks r (Some e) v false l after
-  asks_none is = (
-    same_cells,
-    λ more.
-        asked_end r.ints.now s (touched_of l) (invariant_of r.ints.now e v) more l.steps
-        ∙ ap (after_end (touched_of l) more) (ran ∙ ap (λ q. ended_by q ended (stopped after)) is)
-        ∙ ap (λ u. Stopped u after.steps) (sym same_cells),
-  )
+pub meets : (t : Tables) (n : ℕ) (d : StateDecl) (v : Value) (b : Bool) (l after : Log) → slice_get t.states n ≡ Some d
+    → Asks t.ints d.inv v b l after → IsTrue b ↔ MeetsInvariant t n v
+meets t n d v b l after declared h =
+    let says : b ≡ invariant_holds t.ints (declared_invariant (slice_get t.states n)) v =
+    ask_says t.ints d.inv v b l after h ∙ sym (ap (λ q. invariant_holds t.ints (declared_invariant q) v) declared) in
+    (λ e. sym says ∙ e, λ e. says ∙ e)

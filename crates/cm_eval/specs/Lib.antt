@@ -4,7 +4,8 @@ pub mod State
 pub mod Evaluation
 pub mod Run
 pub mod Invariant
-pub mod Limits
+pub mod Values
+pub mod Ended
+pub mod Compiled
 pub mod StoreCode
-pub mod Places
-pub mod Going
+pub mod inner

@@ -1,21 +1,22 @@
 //! Cells: touched, read, written, and asked for their invariant when they are new.
 
-ghost use Rattle.std.specs.Prelude.{◌≡◌, ◌≤◌, ◌<◌, ℕ, Bool, IfOk, IfSome, IsTrue, List, length, slice_set, true};
-ghost use Rattle.cm_model.specs.Limits.{shift_limit};
-ghost use Rattle.cm_value.specs.declared.value.Value.{Value};
-ghost use Rattle.cm_value.specs.Limits.{is_limited};
-ghost use Rattle.cm_eval.specs.Script.{Reads, Writes};
-ghost use Rattle.cm_eval.specs.Limits.{key_reach, states_reach};
-ghost use Rattle.cm_eval.specs.Going.{Gives, AreFitting, Touches, Adds, Asks, Searches, ComparesCells, Puts};
+ghost use Rattle.std.specs.Prelude.{◌≡◌, ◌<◌, ℕ, Bool, IfOk, List, Option, length, slice_set, true};
+ghost use Rattle.cm_model.specs.Tables.{Tables};
+ghost use Rattle.cm_model.specs.declared.ty.IntDecl.{IntDecl};
+ghost use Rattle.cm_model.specs.declared.body.Expr.{Expr};
+ghost use Rattle.cm_eval.specs.Script.{Reads};
+ghost use Rattle.cm_eval.specs.Compiled.{IsCodeOf, invariant_code_of};
+ghost use Rattle.cm_eval.specs.inner.Going.{Gives, Touches, Adds, Asks, Searches, ComparesCells, Puts};
 
+use crate::code::Code;
 use crate::compare::compare;
-use crate::expr::evaluate_flag;
+use crate::drive::run_invariant;
 use crate::log::{CellName, Log, copy_cell};
-use crate::rules::Rules;
 use crate::state::State;
-use cm_model::{Expr, List, NoMemory, StateDecl};
+use cm_code::Instr;
+use cm_model::{List, NoMemory};
 use cm_value::{Value, copy_value};
-use std::slice;
+use std::alloc::Global;
 
 /// Where a cell stands among those that were touched.
 #[derive(Clone, Copy)]
@@ -29,26 +30,25 @@ pub enum Found {
 }
 
 /// Reads a cell: touches it and gives its value.
-#[cycle(evaluate)]
 pub fn read(
-    rules: &Rules,
+    alloc: Global,
+    code: &Code,
     cell: CellName,
     state: &State,
     log: &mut Log,
 ) -> Result<Option<Value>, NoMemory>
-    requires rules { AreFitting rules.now }
-    ensures gives { IfOk result (λ r. Gives rules.now (Reads cell) r state.now log.old state.now log.new) }
-    ensures limited { IfOk result (λ r. IfSome r (λ v. IsTrue (is_limited v))) }
+    ensures gives { IfOk result (λ r. (t : Tables) → IsCodeOf t code.now
+        → Gives t (Reads cell) r state.now log.old log.new) }
 {
-    let Some(declared) = rules.states.get(usize::from(cell.state)) else {
+    let Some(invariant) = code.invariants.get(usize::from(cell.state)) else {
         return Ok(None);
     };
     let Some(value) = state.value(cell.state, cell.key.as_ref()) else {
         return Ok(None);
     };
-    match touch(rules, declared, cell, value, log)? {
+    match touch(alloc, invariant, cell, value, log)? {
         Some(_) => {
-            let value = copy_value(rules.alloc, value)?;
+            let value = copy_value(alloc, value)?;
             Ok(Some(value))
         }
         None => Ok(None),
@@ -56,26 +56,25 @@ pub fn read(
 }
 
 /// Writes a cell: touches it, marks it as written and gives it the value. Says whether the run goes on.
-#[cycle(evaluate)]
 pub fn write(
-    rules: &Rules,
+    alloc: Global,
+    code: &Code,
     cell: CellName,
     value: Value,
     state: &mut State,
     log: &mut Log,
 ) -> Result<bool, NoMemory>
-    requires rules { AreFitting rules.now }
-    requires limited { IsTrue (is_limited value) }
-    ensures puts { IfOk result (λ b. Puts rules.now cell value b state.old log.old state.new log.new) }
+    ensures puts { IfOk result (λ b. (t : Tables) → IsCodeOf t code.now
+        → Puts t cell value b state.old log.old state.new log.new) }
 {
-    let Some(declared) = rules.states.get(usize::from(cell.state)) else {
+    let Some(invariant) = code.invariants.get(usize::from(cell.state)) else {
         return Ok(false);
     };
     let Some(before) = state.value(cell.state, cell.key.as_ref()) else {
         return Ok(false);
     };
-    let name = copy_cell(rules.alloc, &cell)?;
-    match touch(rules, declared, name, before, log)? {
+    let name = copy_cell(alloc, &cell)?;
+    match touch(alloc, invariant, name, before, log)? {
         Some(at) => {
             mark(&mut log.written, at);
             state.set(cell.state, cell.key, value)?;
@@ -95,23 +94,20 @@ fn mark(written: &mut List<bool>, at: usize)
 }
 
 // Touches a cell with this value. Gives its place among the touched, or `None` where the run is blocked.
-#[cycle(evaluate)]
 fn touch(
-    rules: &Rules,
-    declared: &StateDecl,
+    alloc: Global,
+    invariant: &Option<List<Instr>>,
     cell: CellName,
     value: &Value,
     log: &mut Log,
 ) -> Result<Option<usize>, NoMemory>
-    requires rules { AreFitting rules.now }
-    requires reach { key_reach declared.now.inv ≤ shift_limit }
-    requires limited { IsTrue (is_limited value.now) }
-    ensures touches { IfOk result (λ r. Touches rules.now declared.now value.now cell r log.old log.new) }
+    ensures touches { IfOk result (λ r. (ints : List IntDecl) (e : Option Expr) → invariant.now
+        ≡ invariant_code_of ints e → Touches ints e value.now cell r log.old log.new) }
 {
     match find_cell(log.cells.as_slice(), &cell, &mut log.steps)? {
         Found::At(at) => Ok(Some(at)),
         Found::Nowhere => {
-            let r = add(rules, declared, cell, value, log)?;
+            let r = add(alloc, invariant, cell, value, log)?;
             Ok(r)
         }
         Found::Blocked => Ok(None),
@@ -155,53 +151,38 @@ fn compare_cells(
 }
 
 // A new cell comes last among the touched, and its invariant is asked.
-#[cycle(evaluate)]
 fn add(
-    rules: &Rules,
-    declared: &StateDecl,
+    alloc: Global,
+    invariant: &Option<List<Instr>>,
     cell: CellName,
     value: &Value,
     log: &mut Log,
 ) -> Result<Option<usize>, NoMemory>
-    requires rules { AreFitting rules.now }
-    requires reach { key_reach declared.now.inv ≤ shift_limit }
-    requires limited { IsTrue (is_limited value.now) }
-    ensures adds { IfOk result (λ r. Adds rules.now declared.now value.now cell r log.old log.new) }
+    ensures adds { IfOk result (λ r. (ints : List IntDecl) (e : Option Expr) → invariant.now
+        ≡ invariant_code_of ints e → Adds ints e value.now cell r log.old log.new) }
 {
     let at = log.cells.len();
     log.cells.push(cell)?;
     log.written.push(false)?;
-    if ask(rules, &declared.inv, value, log)? {
+    if ask(alloc, invariant, value, log)? {
         return Ok(Some(at));
     }
     Ok(None)
 }
 
-/// Whether a cell's invariant is true of its value.
-#[cycle(evaluate)]
+/// Whether a cell's invariant is true of its value, by the invariant's code.
 pub fn ask(
-    rules: &Rules,
-    invariant: &Option<Expr>,
+    alloc: Global,
+    invariant: &Option<List<Instr>>,
     value: &Value,
     log: &mut Log,
 ) -> Result<bool, NoMemory>
-    requires rules { AreFitting rules.now }
-    requires reach { key_reach invariant.now ≤ shift_limit }
-    requires limited { IsTrue (is_limited value.now) }
-    ensures asks { IfOk result (λ b. Asks rules.now invariant.now value.now b log.old log.new) }
+    ensures asks { IfOk result (λ b. (ints : List IntDecl) (e : Option Expr) → invariant.now
+        ≡ invariant_code_of ints e → Asks ints e value.now b log.old log.new) }
 {
-    let Some(e) = invariant else {
+    let Some(code) = invariant else {
         return Ok(true);
     };
-    let plain = Rules {
-        alloc: rules.alloc,
-        ints: rules.ints,
-        funs: &[],
-        states: &[],
-    };
-    let mut nothing = State::empty(rules.alloc);
-    match evaluate_flag(&plain, e, slice::from_ref(value), &mut nothing, log)? {
-        Some(holds) => Ok(holds),
-        None => Ok(false),
-    }
+    let holds = run_invariant(alloc, code.as_slice(), value, &mut log.steps)?;
+    Ok(holds)
 }

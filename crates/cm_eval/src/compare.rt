@@ -5,7 +5,7 @@ ghost use Rattle.cm_value.specs.declared.value.Value.{Value};
 ghost use Rattle.cm_eval.specs.Comparison.{distinguished, ordered, fields_compared, comparison};
 ghost use Rattle.cm_eval.specs.State.{Touched};
 ghost use Rattle.cm_eval.specs.Run.{Trace, Blocked, Logs, Stopped, logged};
-ghost use Rattle.cm_eval.specs.Going.{Compares, ComparesAll, ComparesTags, ended_by};
+ghost use Rattle.cm_eval.specs.inner.Going.{Compares, ComparesAll, ComparesTags, ended_by};
 
 use cm_model::{List, NoMemory, limits};
 use cm_value::Value;

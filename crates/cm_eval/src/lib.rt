@@ -3,17 +3,17 @@
 
 mod call;
 mod cells;
+mod code;
 mod compare;
-mod expr;
-mod flow;
+mod decide;
+mod drive;
 mod log;
 mod operand;
 mod outcome;
-mod rules;
 mod state;
-mod stmt;
 
-pub use call::{meets_invariant, run_call};
+pub use call::{meets_invariant, run_call, run_call_by};
+pub use code::Code;
 pub use compare::log_both;
 pub use log::{CellName, Log};
 pub use outcome::{Args, Outcome};

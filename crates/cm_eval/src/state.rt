@@ -4,9 +4,7 @@ ghost use Rattle.std.specs.Prelude.{◌≡◌, ◌<◌, ◌≤◌, ℕ, length, 
 ghost use Rattle.cm_value.specs.declared.value.Value.{Value};
 ghost use Rattle.cm_eval.specs.Evaluation.{named};
 ghost use Rattle.cm_eval.specs.State.{Store, look_up, put, least_store, same_cell, same_value, exception_of};
-ghost use Rattle.cm_value.specs.Limits.{is_limited};
-ghost use Rattle.cm_eval.specs.Limits.{are_limited};
-ghost use Rattle.cm_eval.specs.Places.{Finds};
+ghost use Rattle.cm_eval.specs.inner.Places.{Finds};
 
 use crate::log::{CellName, copy_cell};
 use cm_model::{List, Model, NoMemory, StateDecl};
@@ -28,18 +26,14 @@ pub struct State {
 }
 
 impl std::marker::Model for State {
-    ghost use Rattle.std.specs.Prelude.{IsTrue};
     ghost use Rattle.cm_eval.specs.State.{Store, store};
     ghost use Rattle.cm_eval.specs.StoreCode.{store_code};
-    ghost use Rattle.cm_eval.specs.Limits.{is_limited_store};
 
     ghost Value = { Store };
 
     ghost coded = { store_code };
 
     ghost view = { λ s. store s.defaults s.exceptions };
-
-    ghost invariant = { λ s. IsTrue (is_limited_store (store s.defaults s.exceptions)) };
 }
 
 impl State {
@@ -54,18 +48,9 @@ impl State {
         })
     }
 
-    // A state of no cells.
-    pub(crate) fn empty(alloc: Global) -> State {
-        State {
-            defaults: List::new(alloc),
-            exceptions: List::new(alloc),
-        }
-    }
-
     // The value of a cell, if its state is there.
     pub(crate) fn value(&self, state: u16, key: Option<&Value>) -> Option<&Value>
         ensures value { option_copied result ≡ look_up self.now (named state (option_copied key.entry)) }
-        ensures limited { IfSome result (λ v. IsTrue (is_limited v.now)) }
     {
         match find(self.exceptions.as_slice(), state, key) {
             Some(at) => Some(&self.exceptions.as_slice()[at].value),
@@ -87,7 +72,6 @@ impl State {
     /// Gives a cell another value. Where the cell is named already it keeps its place, else it comes last.
     /// At `NoMemory` the state is as it was.
     pub fn set(&mut self, state: u16, key: Option<Value>, v: Value) -> Result<(), NoMemory>
-        requires limited { IsTrue (is_limited v) }
         ensures ok { OnOk result (self.new ≡ put self.old (named state key) v) }
         ensures err { OnErr result (self.new ≡ self.old) }
     {
@@ -154,7 +138,6 @@ impl State {
 fn least_values(alloc: Global, model: &Model, states: &[StateDecl]) -> Result<Vals, NoMemory>
     requires { states.now ≡ model.now.states }
     ensures least { IfOk result (λ values. values ≡ (least_store model.now).defaults) }
-    ensures limited { IfOk result (λ values. IsTrue (are_limited values)) }
 {
     model.well_typed();
     let mut values = List::new(alloc);

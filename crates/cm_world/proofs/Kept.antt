@@ -9,7 +9,7 @@ use Rattle.cm_eval.specs.Script.{Replies, Blocks, Decides, Reads, Writes}
 use Rattle.cm_eval.specs.State.{Store, Touched, look_up, put, with_cell, marked, same_value, same_key, same_cell}
 use Rattle.cm_eval.specs.Evaluation.{Doing, invariant_of}
 use Rattle.cm_eval.specs.Run.{Trace, Replied, Blocked, Logs, End, Ended, Stopped, logged, run, asked, checked, keys_compared, cells_compared, touch_of, added, touched_with, touched_at}
-use Rattle.cm_eval.specs.Going.{compared_in}
+use Rattle.cm_eval.specs.inner.Going.{compared_in}
 use Rattle.cm_eval.proofs.Same.{same_cell_equal}
 use Rattle.cm_eval.proofs.Comparing.{comparison_goes}
 

@@ -9,7 +9,7 @@ use Rattle.cm_eval.specs.declared.log.Log.{Log}
 use Rattle.cm_eval.specs.State.{Store, Touched}
 use Rattle.cm_eval.specs.Evaluation.{call_of}
 use Rattle.cm_eval.specs.Run.{End, Ended, Stopped, evaluation_of}
-use Rattle.cm_eval.specs.Going.{touched_of}
+use Rattle.cm_eval.specs.Ended.{touched_of}
 use Rattle.cm_world.specs.declared.world.World.{World}
 use Rattle.cm_world.specs.declared.order.Outcomes.{Outcomes}
 use Rattle.cm_world.specs.declared.order.BothOrders.{BothOrders}

@@ -6,7 +6,7 @@ use Rattle.cm_eval.specs.declared.log.Log.{Log}
 use Rattle.cm_eval.specs.declared.log.CellName.{CellName}
 use Rattle.cm_eval.specs.declared.state.Except.{Except}
 use Rattle.cm_eval.specs.State.{Store, look_up}
-use Rattle.cm_eval.specs.Going.{touched_of}
+use Rattle.cm_eval.specs.Ended.{touched_of}
 use Rattle.cm_world.specs.declared.order.OneOrder.{OneOrder}
 use Rattle.cm_world.specs.declared.order.OneOrder.TheVariants as one
 use Rattle.cm_world.specs.declared.order.BothOrders.{BothOrders}

@@ -9,8 +9,8 @@ mod states;
 mod typing;
 mod world;
 
-pub use commuting::commutes;
+pub use commuting::{commutes, commutes_by};
 pub use pair_tests::{PairTests, Tests, TestsEntry};
-pub use path::path_of;
+pub use path::{path_by, path_of};
 pub use typing::is_world_of;
 pub use world::World;

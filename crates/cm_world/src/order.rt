@@ -1,15 +1,16 @@
 //! Both orders of a pair of calls.
 
-ghost use Rattle.std.specs.Prelude.{◌≡◌, [], IfOk, IsTrue};
-ghost use Rattle.cm_eval.specs.Limits.{are_limited};
+ghost use Rattle.std.specs.Prelude.{◌≡◌, [], IfOk};
+ghost use Rattle.cm_model.specs.Tables.{Tables};
+ghost use Rattle.cm_eval.specs.Compiled.{IsCodeOf};
 ghost use Rattle.cm_eval.specs.Run.{evaluation_of};
-ghost use Rattle.cm_eval.specs.Going.{touched_of};
+ghost use Rattle.cm_eval.specs.Ended.{touched_of};
 ghost use Rattle.cm_world.specs.Order.{Invocation, invocation, run_of_order, second_ended, call_a, call_b, ba_ended, both_orders, nothing_touched};
 ghost use Rattle.cm_world.specs.Ran.{order_end, both_end};
 
 use crate::World;
-use cm_eval::{Args, Log, Outcome, State, run_call};
-use cm_model::{Model, NoMemory, Pair};
+use cm_eval::{Args, Code, Log, Outcome, State, run_call_by};
+use cm_model::{NoMemory, Pair};
 use cm_value::Value;
 use std::alloc::Global;
 
@@ -56,16 +57,15 @@ pub enum BothOrders {
 /// Runs ab and then ba, each on the initial state. The log of ab goes on through ba.
 pub fn run_both(
     alloc: Global,
-    model: &Model,
+    code: &Code,
     pair: Pair,
     world: &World,
     log: &mut Log,
 ) -> Result<BothOrders, NoMemory>
-    requires a { IsTrue (are_limited world.now.a.vals) }
-    requires b { IsTrue (are_limited world.now.b.vals) }
     requires untouched { touched_of log.old ≡ nothing_touched }
     requires undecided { log.old.steps ≡ [] }
-    ensures both { IfOk result (λ r. both_orders model.now pair world.now ≡ both_end r log.new) }
+    ensures both { IfOk result (λ r. (t : Tables) → IsCodeOf t code.now → both_orders t pair world.now
+        ≡ both_end r log.new) }
 {
     let a = Calling {
         call: pair.a,
@@ -75,13 +75,13 @@ pub fn run_both(
         call: pair.b,
         args: &world.b,
     };
-    match run_order(alloc, model, a, b, &world.init, log)? {
+    match run_order(alloc, code, a, b, &world.init, log)? {
         OneOrder::Replied {
             first,
             second,
             state,
         } => {
-            let r = run_ba(alloc, model, pair, world, first, second, state, log)?;
+            let r = run_ba(alloc, code, pair, world, first, second, state, log)?;
             Ok(r)
         }
         OneOrder::Blocked => Ok(BothOrders::Blocked),
@@ -91,7 +91,7 @@ pub fn run_both(
 // Runs ba, after ab has left these replies and this state.
 fn run_ba(
     alloc: Global,
-    model: &Model,
+    code: &Code,
     pair: Pair,
     world: &World,
     a: Value,
@@ -99,9 +99,9 @@ fn run_ba(
     state: State,
     log: &mut Log,
 ) -> Result<BothOrders, NoMemory>
-    requires a { IsTrue (are_limited world.now.a.vals) }
-    requires b { IsTrue (are_limited world.now.b.vals) }
-    ensures both { IfOk result (λ r. ba_ended a b state (run_of_order model.now (call_b pair world.now) (call_a pair world.now) world.now.init (touched_of log.old) log.old.steps) ≡ both_end r log.new) }
+    ensures both { IfOk result (λ r. (t : Tables) → IsCodeOf t code.now
+        → ba_ended a b state (run_of_order t (call_b pair world.now) (call_a pair world.now) world.now.init
+        (touched_of log.old) log.old.steps) ≡ both_end r log.new) }
 {
     let first = Calling {
         call: pair.b,
@@ -111,7 +111,7 @@ fn run_ba(
         call: pair.a,
         args: &world.a,
     };
-    match run_order(alloc, model, first, second, &world.init, log)? {
+    match run_order(alloc, code, first, second, &world.init, log)? {
         OneOrder::Replied {
             first: b_in_ba,
             second: a_in_ba,
@@ -131,20 +131,21 @@ fn run_ba(
 // Runs one call on the initial state, and the other on the state that it leaves.
 fn run_order(
     alloc: Global,
-    model: &Model,
+    code: &Code,
     first: Calling,
     second: Calling,
     init: &State,
     log: &mut Log,
 ) -> Result<OneOrder, NoMemory>
-    requires first { IsTrue (are_limited first.args.now.vals) }
-    requires second { IsTrue (are_limited second.args.now.vals) }
-    ensures order { IfOk result (λ o. run_of_order model.now (invocation first.entry.call first.entry.args.now.vals) (invocation second.entry.call second.entry.args.now.vals) init.now (touched_of log.old) log.old.steps ≡ order_end o log.new) }
+    ensures order { IfOk result (λ o. (t : Tables) → IsCodeOf t code.now
+        → run_of_order t (invocation first.entry.call first.entry.args.now.vals)
+        (invocation second.entry.call second.entry.args.now.vals) init.now (touched_of log.old) log.old.steps
+        ≡ order_end o log.new) }
 {
     let mut state = init.try_copy(alloc)?;
-    match run_call(alloc, model, first.call, first.args, &mut state, log)? {
+    match run_call_by(alloc, code, first.call, first.args, &mut state, log)? {
         Outcome::Reply(reply) => {
-            let r = run_second(alloc, model, second, reply, state, log)?;
+            let r = run_second(alloc, code, second, reply, state, log)?;
             Ok(r)
         }
         Outcome::Blocked => Ok(OneOrder::Blocked),
@@ -154,17 +155,18 @@ fn run_order(
 // Runs the second call of an order, after the first left this reply and this state.
 fn run_second(
     alloc: Global,
-    model: &Model,
+    code: &Code,
     second: Calling,
     first: Value,
     state: State,
     log: &mut Log,
 ) -> Result<OneOrder, NoMemory>
-    requires second { IsTrue (are_limited second.args.now.vals) }
-    ensures order { IfOk result (λ o. second_ended first (evaluation_of model.now second.entry.call second.entry.args.now.vals state (touched_of log.old) log.old.steps) ≡ order_end o log.new) }
+    ensures order { IfOk result (λ o. (t : Tables) → IsCodeOf t code.now
+        → second_ended first (evaluation_of t second.entry.call second.entry.args.now.vals state
+        (touched_of log.old) log.old.steps) ≡ order_end o log.new) }
 {
     let mut state = state;
-    match run_call(alloc, model, second.call, second.args, &mut state, log)? {
+    match run_call_by(alloc, code, second.call, second.args, &mut state, log)? {
         Outcome::Reply(second) => Ok(OneOrder::Replied {
             first,
             second,

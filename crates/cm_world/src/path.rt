@@ -2,21 +2,22 @@
 
 ghost use Rattle.std.specs.Prelude.{◌≡◌, ◌<◌, ◌++◌, IfOk, OnOk, length, List, ℕ, slice_get, Some, None};
 ghost use Rattle.cm_eval.specs.State.{look_up};
-ghost use Rattle.cm_eval.specs.Going.{touched_of};
+ghost use Rattle.cm_eval.specs.Ended.{touched_of};
 ghost use Rattle.cm_eval.specs.Comparison.{variant};
+ghost use Rattle.cm_eval.specs.Compiled.{IsCodeOf};
 ghost use Rattle.cm_world.specs.World.{IsWorldOf};
 ghost use Rattle.cm_world.specs.Path.{path_of_world, last_comparison, cells_inspected, cell_inspected, variants_logged};
 ghost use Rattle.cm_world.specs.Ran.{Inspection, Inspects, InspectsAll, AreDeclared};
 
 use crate::World;
 use crate::order::{BothOrders, Outcomes, run_both};
-use cm_eval::{CellName, Log, State, log_both};
+use cm_eval::{CellName, Code, Log, State, log_both};
 use cm_model::{List, Model, NoMemory, Pair, limits};
 use cm_value::Value;
 use std::alloc::Global;
 
 /// The path of a world: the decisions of ab, then those of ba, then those of the last comparison. A blocked
-/// run ends it.
+/// run ends it. Whoever asks it of many worlds makes the code once and calls `path_by`.
 ///
 /// # Errors
 /// `NoMemory` where memory runs out.
@@ -29,9 +30,29 @@ pub fn path_of(
     requires world { IsWorldOf model.now pair world.now }
     ensures exact { IfOk result (λ path. path ≡ path_of_world model.now pair world.now) }
 {
-    model.well_typed();
+    let code = Code::of(alloc, model)?;
+    let path = path_by(alloc, model, &code, pair, world)?;
+    Ok(path)
+}
+
+/// The same by the code of the model, which is made once for many worlds.
+///
+/// # Errors
+/// `NoMemory` where memory runs out.
+pub fn path_by(
+    alloc: Global,
+    model: &Model,
+    code: &Code,
+    pair: Pair,
+    world: &World,
+) -> Result<List<u8>, NoMemory>
+    requires code { IsCodeOf model.now code.now }
+    requires world { IsWorldOf model.now pair world.now }
+    ensures exact { IfOk result (λ path. path ≡ path_of_world model.now pair world.now) }
+{
+    let _ = model.states();
     let mut log = Log::new(alloc);
-    match run_both(alloc, model, pair, world, &mut log)? {
+    match run_both(alloc, code, pair, world, &mut log)? {
         BothOrders::Replied(outcomes) => {
             inspect_last(&outcomes, &mut log)?;
             Ok(log.steps)
@@ -95,7 +116,8 @@ fn inspect_cell(
 ) -> Result<bool, NoMemory>
     requires left { cell.now.state < length left.now.defaults }
     requires right { cell.now.state < length right.now.defaults }
-    ensures inspects { IfOk result (λ on. Inspection (cell_inspected (look_up left.now cell.now) (look_up right.now cell.now)) on steps.old steps.new) }
+    ensures inspects { IfOk result (λ on. Inspection (cell_inspected (look_up left.now cell.now)
+        (look_up right.now cell.now)) on steps.old steps.new) }
 {
     let key = cell.key.as_ref();
     let r = inspect(left.get(cell.state, key), right.get(cell.state, key), steps)?;
@@ -156,7 +178,8 @@ fn inspect_fields(left: &[Value], right: &[Value], steps: &mut List<u8>) -> Resu
 
 // The variants of one enum. Numbers past the limit on variants are none.
 fn inspect_variants(left: u16, right: u16, steps: &mut List<u8>) -> Result<bool, NoMemory>
-    ensures inspects { IfOk result (λ on. Inspection (variants_logged (variant left) (variant right)) on steps.old steps.new) }
+    ensures inspects { IfOk result (λ on. Inspection (variants_logged (variant left)
+        (variant right)) on steps.old steps.new) }
 {
     if left >= limits::VARIANTS || right >= limits::VARIANTS {
         return Ok(true);

@@ -1,8 +1,6 @@
 //! Values and cells as rows write them. A contract knows that their numbers are small.
 
 ghost use Rattle.std.specs.Prelude.{◌≡◌, [], ◌∷◌, IfOk, IsTrue};
-ghost use Rattle.cm_value.specs.Limits.{is_limited};
-ghost use Rattle.cm_eval.specs.Limits.{are_limited};
 
 use anyhow::{Result, bail};
 use cm_model::{Boxed, List, NoMemory};
@@ -86,9 +84,7 @@ pub fn held(word: &str) -> Result<HeldCell> {
 }
 
 /// The value itself.
-pub fn value_of(alloc: Global, given: Given) -> Result<Value, NoMemory>
-    ensures limited { IfOk result (λ v. IsTrue (is_limited v)) }
-{
+pub fn value_of(alloc: Global, given: Given) -> Result<Value, NoMemory> {
     match given {
         Given::Elem(n) => Ok(elem(n)),
         Given::Number(n) => Ok(number(n)),
@@ -100,9 +96,7 @@ pub fn value_of(alloc: Global, given: Given) -> Result<Value, NoMemory>
 }
 
 /// The values, in order.
-pub fn values_of(alloc: Global, given: &[Given]) -> Result<Vals, NoMemory>
-    ensures limited { IfOk result (λ values. IsTrue (are_limited values)) }
-{
+pub fn values_of(alloc: Global, given: &[Given]) -> Result<Vals, NoMemory> {
     match given {
         [] => Ok(nothing(alloc)),
         [v] => only(alloc, *v),
@@ -110,9 +104,7 @@ pub fn values_of(alloc: Global, given: &[Given]) -> Result<Vals, NoMemory>
     }
 }
 
-fn nothing(alloc: Global) -> Vals
-    ensures limited { IsTrue (are_limited result) }
-{
+fn nothing(alloc: Global) -> Vals {
     List::new(alloc)
 }
 
@@ -133,60 +125,41 @@ fn two(alloc: Global, v: Value, w: Value) -> Result<Vals, NoMemory>
     Ok(values)
 }
 
-fn only(alloc: Global, v: Given) -> Result<Vals, NoMemory>
-    ensures limited { IfOk result (λ values. IsTrue (are_limited values)) }
-{
+fn only(alloc: Global, v: Given) -> Result<Vals, NoMemory> {
     let v = value_of(alloc, v)?;
     let values = one(alloc, v)?;
     Ok(values)
 }
 
-fn both(alloc: Global, v: Given, w: Given) -> Result<Vals, NoMemory>
-    ensures limited { IfOk result (λ values. IsTrue (are_limited values)) }
-{
+fn both(alloc: Global, v: Given, w: Given) -> Result<Vals, NoMemory> {
     let v = value_of(alloc, v)?;
     let w = value_of(alloc, w)?;
     let values = two(alloc, v, w)?;
     Ok(values)
 }
 
-fn elem(n: u64) -> Value
-    ensures limited { IsTrue (is_limited result) }
-{
+fn elem(n: u64) -> Value {
     Value::Elem(n)
 }
 
-fn number(n: u8) -> Value
-    ensures limited { IsTrue (is_limited result) }
-{
+fn number(n: u8) -> Value {
     Value::Int(i64::from(n))
 }
 
-fn flag(b: bool) -> Value
-    ensures limited { IsTrue (is_limited result) }
-{
+fn flag(b: bool) -> Value {
     if b { Value::Tag(1) } else { Value::Tag(0) }
 }
 
-fn none() -> Value
-    ensures limited { IsTrue (is_limited result) }
-{
+fn none() -> Value {
     Value::None
 }
 
-fn some(alloc: Global, v: Value) -> Result<Value, NoMemory>
-    requires limited { IsTrue (is_limited v) }
-    ensures limited { IfOk result (λ o. IsTrue (is_limited o)) }
-{
+fn some(alloc: Global, v: Value) -> Result<Value, NoMemory> {
     let payload = Boxed::new(alloc, v)?;
     Ok(Value::Some(payload))
 }
 
-fn of_two(alloc: Global, v: Value, w: Value) -> Result<Value, NoMemory>
-    requires first { IsTrue (is_limited v) }
-    requires second { IsTrue (is_limited w) }
-    ensures limited { IfOk result (λ r. IsTrue (is_limited r)) }
-{
+fn of_two(alloc: Global, v: Value, w: Value) -> Result<Value, NoMemory> {
     let parts = two(alloc, v, w)?;
     Ok(Value::Rec(parts))
 }

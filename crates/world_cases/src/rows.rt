@@ -1,7 +1,6 @@
 //! Rows: what they set up, and what is done with it.
 
 ghost use Rattle.std.specs.Prelude.{IfOk, IsTrue};
-ghost use Rattle.cm_eval.specs.Limits.{are_limited};
 ghost use Rattle.cm_world.specs.World.{IsWorldOf};
 
 use crate::given::{Given, HeldCell, element, held, read_given, value_of, values_of};
@@ -50,9 +49,7 @@ fn state_of(alloc: Global, model: &Model, cells: &str) -> Result<State> {
 }
 
 // At most two values: no call of the samples takes more.
-fn args_of(alloc: Global, words: &str) -> Result<Args>
-    ensures limited { IfOk result (λ args. IsTrue (are_limited args.vals)) }
-{
+fn args_of(alloc: Global, words: &str) -> Result<Args> {
     let mut words = words.split_whitespace();
     match (words.next(), words.next()) {
         (Some(first), Some(second)) => args(alloc, &[read_given(first)?, read_given(second)?]),
@@ -61,9 +58,7 @@ fn args_of(alloc: Global, words: &str) -> Result<Args>
     }
 }
 
-fn args(alloc: Global, given: &[Given]) -> Result<Args>
-    ensures limited { IfOk result (λ args. IsTrue (are_limited args.vals)) }
-{
+fn args(alloc: Global, given: &[Given]) -> Result<Args> {
     let vals = values_of(alloc, given)?;
     Ok(Args { vals })
 }

@@ -1,12 +1,6 @@
 use Rattle.std.proofs.Common.{rules, arith, IsTrue, ◌≡◌, ◌<◌, length, get_or, List, sym, subst, ap, ◌∙◌}
-use Rattle.std.proofs.lemmas.Grind.{common_steps}
 use Rattle.cm_model.specs.Types.{IsType}
 use Rattle.cm_model.specs.declared.body.StateDecl.{StateDecl}
-use Rattle.cm_value.specs.declared.value.Value.{Value}
-use Rattle.cm_value.specs.Limits.{is_limited}
-use Rattle.cm_value.proofs.Limited.{value_is_limited}
-use Rattle.cm_eval.specs.Limits.{are_limited}
-use Rattle.cm_eval.proofs.Limits.{all_push}
 use Rattle.cm_eval.proofs.Declared.{cell_type}
 use Rattle.cm_eval.proofs.state.least_values.Goals as goal
 
@@ -18,12 +12,3 @@ least-requires c =
     c.state-item.is ∙ ap (λ (ds : List StateDecl). get_or ds c.loop-state.state-index c.state-item.result) c.requires in
     subst (λ (d : StateDecl). IsType c.args.model.now d.value) (sym item)
     (cell_type c.args.model.now c.well_typed.ensures.well_typed c.loop-state.state-index c.state-item.result place)
-
--- src/state.rt:114:5
-pub loop-state-preserved : goal.loop-state-preserved
-loop-state-preserved c = (
-  first_of (search rules, grind (arith, common_steps)),
-  subst (λ (vs : List Value). IsTrue (are_limited vs)) (sym c.in_ok-push.ensures.ok)
-      (all_push is_limited c.loop-state.values c.in_ok-value.value c.loop-state.invariant.1
-      (value_is_limited c.args.model.now c.well_typed.ensures.well_typed c.in_ok-value.value c.state-item.result.value c.in_ok-value.ensures.of_the_type)),
-)
