@@ -21,5 +21,6 @@ pub mod Good
 pub mod Rows
 pub mod Examples
 pub mod Names
+pub mod Spare
 pub mod Owning
 pub mod Leading

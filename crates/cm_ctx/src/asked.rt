@@ -1,6 +1,6 @@
 //! What was made for the symbols that were asked for.
 
-ghost use Rattle.std.specs.Prelude.{◌≡◌, ◌<◌, ◌≤◌, ◌-◌, ◌+◌, ◌*◌, ◌==◌, ◌++◌, ◌∷◌, [], ℕ, Some, IfOk, if◌then◌else◌, length, replicate, slice_get, slice_index_or};
+ghost use Rattle.std.specs.Prelude.{◌≡◌, ◌↔◌, ◌<◌, ◌≤◌, ◌-◌, ◌+◌, ◌*◌, ◌==◌, ◌++◌, ◌∷◌, [], ℕ, Some, IsTrue, IfOk, if◌then◌else◌, length, replicate, slice_get, slice_index_or};
 ghost use Rattle.cm_ctx.specs.declared.piece.Piece.{Piece};
 ghost use Rattle.cm_ctx.specs.Contexts.{payloads_in, payloads_of};
 ghost use Rattle.cm_ctx.specs.Naming.{syms_of};
@@ -94,6 +94,16 @@ impl Asked {
         naming::sym_of(self.pieces.as_slice(), kind, number as usize)
     }
 
+    /// Whether something was made for a root.
+    pub fn has(&self, root: Root) -> bool
+        ensures { IsTrue result ↔ ((p : Piece) × IsAmong self.now p × (p.root ≡ root)) }
+    {
+        let roots = self.roots.as_slice();
+        let pieces = self.pieces.as_slice();
+        let number = piece_number(roots, root);
+        is_of(pieces, number, root)
+    }
+
     /// What was made for a root.
     pub fn piece_of(&self, root: Root) -> &Piece
         requires { (p : Piece) × IsAmong self.now p × (p.root ≡ root) }
@@ -128,6 +138,22 @@ fn piece_at(pieces: &[Shared<Piece>], number: usize) -> &Piece
     ensures { slice_get pieces.now number ≡ Some result.now }
 {
     pieces[number].get()
+}
+
+/// Whether there is a piece with this number, and it is of this root.
+fn is_of(pieces: &[Shared<Piece>], number: usize, root: Root) -> bool
+    ensures { IsTrue result ↔ ((p : Piece) × (slice_get pieces.now number ≡ Some p) × (p.root ≡ root)) }
+{
+    if number >= pieces.len() {
+        return false;
+    }
+    is_same(piece_at(pieces, number).root, root)
+}
+
+fn is_same(root: Root, other: Root) -> bool
+    ensures { IsTrue result ↔ (root ≡ other) }
+{
+    root == other
 }
 
 fn payload_in(piece: &Piece, o: u64) -> &Term

@@ -223,6 +223,13 @@ impl Ctx {
         self.asked.get().payload(o.0)
     }
 
+    /// Whether the symbol of this root was asked for.
+    pub fn has(&self, root: Root) -> bool
+        ensures asked { IsTrue result ↔ ((p : Piece) × IsAmong self.now.pieces p × (p.root ≡ root)) }
+    {
+        self.asked.get().has(root)
+    }
+
     /// The term that was made for the symbol of this root. It takes no memory.
     pub fn term_at(&self, root: Root) -> &Term
         requires { (p : Piece) × IsAmong self.now.pieces p × (p.root ≡ root) }
