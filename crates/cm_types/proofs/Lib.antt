@@ -1,4 +1,5 @@
 pub mod Alternatives
+pub mod Checking
 pub mod Counting
 pub mod Deepening
 pub mod DistinctLists

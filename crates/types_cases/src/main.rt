@@ -5,11 +5,12 @@
 #![tactic(auto)]
 
 ghost use Rattle.std.specs.Prelude.{◌≡◌, ◌<◌, ◌-◌, ◌^◌, length};
+ghost use Rattle.cm_types.specs.Source.{IsRead};
 
 use anyhow::{Result, bail};
-use cm_model::NoMemory;
+use cm_model::{Model, NoMemory};
 use cm_syntax::{Tree, read_tree};
-use cm_types::check_tables;
+use cm_types::check;
 use std::alloc::Global;
 
 // How long a text is at most.
@@ -24,18 +25,26 @@ fn with_newlines(alloc: Global, text: &[u8]) -> Result<Vec<u8>, NoMemory> {
     Ok(all)
 }
 
-fn checked(alloc: Global, tree: &Tree) -> Result<String> {
-    match check_tables(alloc, tree) {
-        Ok(t) => {
-            let (sorts, ints, enums, records) = (
-                t.sorts.len(),
-                t.ints.len(),
-                t.enums.len(),
-                t.records.len(),
-            );
-            let (states, funs, calls) = (t.states.len(), t.funs.len(), t.calls.len());
-            Ok(format!(in alloc; "ok {sorts} {ints} {enums} {records} {states} {funs} {calls}")?)
-        }
+fn counts(alloc: Global, model: &Model) -> Result<String> {
+    let (sorts, ints, enums, records) = (
+        model.sorts().len(),
+        model.ints().len(),
+        model.enums().len(),
+        model.records().len(),
+    );
+    let (states, funs, calls) = (
+        model.states().len(),
+        model.funs().len(),
+        model.calls().len(),
+    );
+    Ok(format!(in alloc; "ok {sorts} {ints} {enums} {records} {states} {funs} {calls}")?)
+}
+
+fn checked(alloc: Global, tree: &Tree) -> Result<String>
+    requires read { IsRead tree.now }
+{
+    match check(alloc, tree) {
+        Ok(model) => counts(alloc, &model),
         Err(fault) => Ok(format!(in alloc; "{fault}")?),
     }
 }

@@ -1,4 +1,4 @@
-//! A whole tree is checked.
+//! The walk over a whole tree.
 
 ghost use Rattle.std.specs.Prelude.{◌≡◌, IfOk, ◌∷◌};
 ghost use Rattle.cm_types.specs.Told.{Answers};
