@@ -1,5 +1,6 @@
 -- A touch of terms beside the touch of their values.
-use Rattle.std.proofs.Common.{◌≡◌, refl, ℕ, ◌+◌, ◌==◌, ltb, Bool, true, false, ◌&&◌, List, [], ◌∷◌, map, Option, Some, None, IsTrue, sym, subst, ap, ◌∙◌, if◌then◌else◌}
+use Rattle.std.proofs.Common.{◌≡◌, refl, ℕ, ◌+◌, ◌==◌, ltb, Bool, true, false, ◌&&◌, List, [], ◌∷◌, map, Option, Some}
+use Rattle.std.proofs.Common.{None, IsTrue, sym, subst, ap, ◌∙◌, if◌then◌else◌}
 use Rattle.std.proofs.lemmas.Bool.{and_parts}
 use Rattle.std.specs.Option.{option_map}
 use Rattle.cm_model.specs.declared.variable.SortVar.{SortVar}
@@ -30,9 +31,11 @@ use Rattle.cm_eval.specs.Run.{Trace, Blocked, Logs, touch_of, cells_compared}
 use Rattle.cm_eval.specs.Run as run
 use Rattle.cm_eval.proofs.Examples.{out_elem, out_int, out_tag, out_rec}
 use Rattle.cm_cells.specs.CellTable.{Place}
-use Rattle.cm_cells.specs.Comparison.{comparing, comparing_step, fields_compared, or_differ, elem_in, num_in, tag_in, fields_in}
+use Rattle.cm_cells.specs.Comparison.{comparing, comparing_step, fields_compared, or_differ, elem_in, num_in, tag_in}
+use Rattle.cm_cells.specs.Comparison.{fields_in}
 use Rattle.cm_cells.specs.Touching.{places_compared, keys_compared, touching}
-use Rattle.cm_cells.specs.Alike.{cell_under, is_there, is_variant, is_variant_in, all_alike, fields_alike, alike, alike_step, keys_alike, all_keys_alike}
+use Rattle.cm_cells.specs.Alike.{cell_under, is_there, is_variant, is_variant_in, all_alike, fields_alike, alike}
+use Rattle.cm_cells.specs.Alike.{alike_step, keys_alike, all_keys_alike}
 
 pub whole : (u : Term) (y : Term-F Term) → out-Term u ≡ y → u ≡ roll-Term y
 whole u y is = sym (roll-out-Term u) ∙ ap roll-Term is

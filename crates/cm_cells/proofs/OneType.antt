@@ -1,5 +1,6 @@
 -- Keys of one type that hold no option are alike.
-use Rattle.std.proofs.Common.{◌≡◌, refl, ℕ, ℤ, ◌==◌, ltb, Bool, true, false, ◌&&◌, List, [], ◌∷◌, map, Option, Some, None, slice_get, sym, subst, ap, ◌∙◌, if◌then◌else◌}
+use Rattle.std.proofs.Common.{◌≡◌, refl, ℕ, ℤ, ◌==◌, ltb, Bool, true, false, ◌&&◌, List, [], ◌∷◌, map, Option, Some}
+use Rattle.std.proofs.Common.{None, slice_get, sym, subst, ap, ◌∙◌, if◌then◌else◌}
 use Rattle.std.specs.List.{list_all}
 use Rattle.std.proofs.lemmas.Bool.{and_parts, lt-ltb}
 use Rattle.cm_model.specs.Limits.{variant_limit}
@@ -11,7 +12,8 @@ use Rattle.cm_model.specs.declared.ty.Ty.TheOpen.{Ty-F}
 use Rattle.cm_model.specs.declared.ty.RecDecl.{RecDecl}
 use Rattle.cm_value.specs.declared.value.Value.{Value}
 use Rattle.cm_value.specs.declared.value.Value.TheVariants as value
-use Rattle.cm_value.specs.Membership.{member_of, are_members, is_value_of, is_sort, is_number_of, is_variant_of, is_record_of, is_none_of, is_some_of, has_fields, field_types}
+use Rattle.cm_value.specs.Membership.{member_of, are_members, is_value_of, is_sort, is_number_of, is_variant_of}
+use Rattle.cm_value.specs.Membership.{is_record_of, is_none_of, is_some_of, has_fields, field_types}
 use Rattle.cm_value.proofs.Folds as values
 use Rattle.cm_value.proofs.Declared.{and_true}
 use Rattle.cm_value.proofs.Limited.{value_is_limited, limited_tag}
@@ -29,7 +31,8 @@ use Rattle.cm_term.proofs.Folds as terms
 use Rattle.cm_term.proofs.Values.{value_elem, value_num, value_tag, value_rec, value_none, value_some, value_either}
 use Rattle.cm_term.proofs.Induction.{Each, term_ind}
 use Rattle.cm_cells.specs.Comparison.{elem_in, num_in, tag_in, fields_in}
-use Rattle.cm_cells.specs.Alike.{is_there, is_variant, is_variant_in, all_alike, fields_alike, alike, alike_step, is_without_options, plain_step}
+use Rattle.cm_cells.specs.Alike.{is_there, is_variant, is_variant_in, all_alike, fields_alike, alike, alike_step}
+use Rattle.cm_cells.specs.Alike.{is_without_options, plain_step}
 use Rattle.cm_cells.proofs.Beside.{whole}
 
 -- the form of a term, and of the values of a type

@@ -1,5 +1,6 @@
 -- Two readers of a touch who do alike at each question end alike.
-use Rattle.std.proofs.Common.{◌≡◌, ℕ, ◌+◌, ◌==◌, Bool, true, false, List, [], ◌∷◌, map, Option, Some, None, sym, subst, ap, ◌∙◌, if◌then◌else◌}
+use Rattle.std.proofs.Common.{◌≡◌, ℕ, ◌+◌, ◌==◌, Bool, true, false, List, [], ◌∷◌, map, Option, Some, None, sym, subst}
+use Rattle.std.proofs.Common.{ap, ◌∙◌, if◌then◌else◌}
 use Rattle.cm_model.specs.declared.variable.SortVar.{SortVar}
 use Rattle.cm_term.specs.declared.atom.Num.{Num}
 use Rattle.cm_term.specs.declared.atom.Tag.{Tag}
@@ -11,7 +12,8 @@ use Rattle.cm_term.specs.declared.term.Term.TheVariants as term
 use Rattle.cm_term.proofs.Folds.{fold-elem, fold-num, fold-tag, fold-rec, fold-none, fold-some, fold-either}
 use Rattle.cm_term.proofs.Induction.{Each, term_ind}
 use Rattle.cm_cells.specs.CellTable.{Place}
-use Rattle.cm_cells.specs.Comparison.{Comparing, comparing, comparing_step, fields_compared, or_differ, elem_in, num_in, tag_in, fields_in}
+use Rattle.cm_cells.specs.Comparison.{Comparing, comparing, comparing_step, fields_compared, or_differ, elem_in, num_in}
+use Rattle.cm_cells.specs.Comparison.{tag_in, fields_in}
 use Rattle.cm_cells.specs.Touching.{keys_compared, places_compared, touching}
 
 module _ (X Y : Type 0) (R : X → Y → Type 0) (ask : Question → (ℕ → X) → X) (pose : Question → (ℕ → Y) → Y)

@@ -4,7 +4,8 @@ ghost use Rattle.std.specs.Prelude.{◌≡◌, ◌<◌, ◌↔◌, ◌≤◌, So
 ghost use Rattle.std.specs.Option.{option_copied};
 ghost use Rattle.cm_model.specs.Limits.{cell_limit};
 ghost use Rattle.cm_cells.specs.declared.cells.CellsFault.TheVariants as fault;
-ghost use Rattle.cm_cells.specs.CellTable.{CellTable, Place, no_cells, place, with_cell, with_term, started_anew, terms_in, IsTable};
+ghost use Rattle.cm_cells.specs.CellTable.{CellTable, Place, no_cells, place, with_cell, with_term, started_anew};
+ghost use Rattle.cm_cells.specs.CellTable.{terms_in, IsTable};
 ghost use Rattle.cm_cells.specs.Touching.{next_of};
 
 use crate::cell::{self, Cell};

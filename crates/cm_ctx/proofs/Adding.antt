@@ -1,5 +1,7 @@
 -- The parts of a context as variables are added to them, one by one.
-use Rattle.std.proofs.Common.{◌≡◌, ◌<◌, ◌≤◌, ◌+◌, ◌↔◌, ℕ, zero, suc, ℤ, pos, negsuc, ◌≤ℤ◌, to_z, of_z, w64, List, [], ◌∷◌, ◌++◌, map, take, length, get_or, slice_get, Some, append_assoc, refl, sym, ap, subst, ◌∙◌, arith, Bool}
+use Rattle.std.proofs.Common.{◌≡◌, ◌<◌, ◌≤◌, ◌+◌, ◌↔◌, ℕ, zero, suc, ℤ, pos, negsuc, ◌≤ℤ◌, to_z, of_z, w64, List, []}
+use Rattle.std.proofs.Common.{◌∷◌, ◌++◌, map, take, length, get_or, slice_get, Some, append_assoc, refl, sym, ap, subst}
+use Rattle.std.proofs.Common.{◌∙◌, arith, Bool}
 use Rattle.std.proofs.lemmas.Int.{ints}
 use Rattle.std.proofs.lemmas.Option.{slice_get-get_or}
 use Rattle.std.proofs.lemmas.List.{append-nil, length-append, map-append}

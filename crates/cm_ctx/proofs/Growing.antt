@@ -1,5 +1,6 @@
 -- The terms of fields, made one by one.
-use Rattle.std.proofs.Common.{◌≡◌, ℕ, zero, suc, ◌+◌, ◌<◌, ◌≤◌, List, [], ◌∷◌, ◌++◌, map, take, drop, length, get_or, slice_get, Some, append_assoc, refl, sym, ap, subst, ◌∙◌, arith}
+use Rattle.std.proofs.Common.{◌≡◌, ℕ, zero, suc, ◌+◌, ◌<◌, ◌≤◌, List, [], ◌∷◌, ◌++◌, map, take, drop, length, get_or}
+use Rattle.std.proofs.Common.{slice_get, Some, append_assoc, refl, sym, ap, subst, ◌∙◌, arith}
 use Rattle.std.proofs.lemmas.List.{append-nil, length-append}
 use Rattle.std.proofs.lemmas.Option.{slice_get_past}
 use Rattle.cm_model.specs.Types.{or_else}
@@ -16,7 +17,9 @@ use Rattle.cm_term.specs.declared.term.Term.{Term}
 use Rattle.cm_term.specs.declared.term.Term.TheVariants as term
 use Rattle.cm_ctx.specs.declared.piece.Counts.{Counts}
 use Rattle.cm_ctx.specs.declared.piece.Variables.{Variables}
-use Rattle.cm_ctx.specs.Making.{Place, place, into, behind, counts, counted, both, variables, Made, Maker, Fields, fields, no_fields, first_field, fields_made, of_fields, record_made, made_in, record_maker, record_makers}
+use Rattle.cm_ctx.specs.Making.{Place, place, into, behind, counts, counted, both, variables, Made, Maker, Fields}
+use Rattle.cm_ctx.specs.Making.{fields, no_fields, first_field, fields_made, of_fields, record_made, made_in}
+use Rattle.cm_ctx.specs.Making.{record_maker, record_makers}
 use Rattle.cm_ctx.specs.Growth.{Adds, AddsFields}
 
 -- the fields up to number i are made

@@ -1,5 +1,7 @@
 -- The symbol of a variable names the variable's value.
-use Rattle.std.proofs.Common.{◌≡◌, ◌<◌, ◌+◌, ◌==◌, ◌+ℤ◌, ◌⊎◌, inl, inr, ℕ, zero, suc, ℤ, pos, Bool, true, false, if◌then◌else◌, IfSome, List, [], ◌∷◌, ◌++◌, map, length, slice_get, Option, Some, None, refl, sym, ap, subst, ◌∙◌, arith}
+use Rattle.std.proofs.Common.{◌≡◌, ◌<◌, ◌+◌, ◌==◌, ◌+ℤ◌, ◌⊎◌, inl, inr, ℕ, zero, suc, ℤ, pos, Bool, true, false}
+use Rattle.std.proofs.Common.{if◌then◌else◌, IfSome, List, [], ◌∷◌, ◌++◌, map, length, slice_get, Option, Some, None}
+use Rattle.std.proofs.Common.{refl, sym, ap, subst, ◌∙◌, arith}
 use Rattle.std.proofs.lemmas.Int.{ints}
 use Rattle.std.proofs.lemmas.List.{append-nil, append_assoc, length-append}
 use Rattle.cm_model.specs.Tables.{Tables}
@@ -17,7 +19,8 @@ use Rattle.cm_term.specs.declared.term.Term.{Term}
 use Rattle.cm_term.specs.Symbols.{part_in, field_in, payload_in, followed}
 use Rattle.cm_term.specs.Terms.{value_of}
 use Rattle.cm_term.specs.Valuation.{Valuation}
-use Rattle.cm_term.proofs.Values.{value_elem, value_num, value_tag, value_rec, value_either, out_rec, out_none, out_some}
+use Rattle.cm_term.proofs.Values.{value_elem, value_num, value_tag, value_rec, value_either, out_rec, out_none}
+use Rattle.cm_term.proofs.Values.{out_some}
 use Rattle.cm_ctx.specs.declared.piece.Counts.{Counts}
 use Rattle.cm_ctx.specs.declared.piece.ElementPart.{ElementPart}
 use Rattle.cm_ctx.specs.declared.piece.NumberPart.{NumberPart}
@@ -26,7 +29,9 @@ use Rattle.cm_ctx.specs.declared.piece.OptionPart.{OptionPart}
 use Rattle.cm_ctx.specs.declared.piece.Variables.{Variables}
 use Rattle.cm_ctx.specs.Belonging.{PayloadsHold, Leads, NamesPart, Names, option_value}
 use Rattle.cm_ctx.specs.Giving.{EachFrom}
-use Rattle.cm_ctx.specs.Making.{Place, place, into, behind, sym_of, counted, both, variables, Maker, Fields, fields_made, element_made, number_made, tag_made, option_made, record_made, made_of, piece_of}
+use Rattle.cm_ctx.specs.Making.{Place, place, into, behind, sym_of, counted, both, variables, Maker, Fields}
+use Rattle.cm_ctx.specs.Making.{fields_made, element_made, number_made, tag_made, option_made, record_made, made_of}
+use Rattle.cm_ctx.specs.Making.{piece_of}
 use Rattle.cm_ctx.proofs.Each.{each_append, each_so}
 use Rattle.cm_ctx.proofs.Indexing.{get_right}
 use Rattle.cm_ctx.proofs.Makers.{maker_ind}

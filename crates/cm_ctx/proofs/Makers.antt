@@ -1,5 +1,6 @@
 -- Induction over what is made for types, and over the records before each record.
-use Rattle.std.proofs.Common.{◌≡◌, ℕ, zero, suc, ◌+◌, ◌<◌, ◌≤◌, ◌⊎◌, inl, inr, List, [], ◌∷◌, map, take, length, slice_get, Some, refl, sym, ap, subst, ◌∙◌, arith}
+use Rattle.std.proofs.Common.{◌≡◌, ℕ, zero, suc, ◌+◌, ◌<◌, ◌≤◌, ◌⊎◌, inl, inr, List, [], ◌∷◌, map, take, length}
+use Rattle.std.proofs.Common.{slice_get, Some, refl, sym, ap, subst, ◌∙◌, arith}
 use Rattle.std.proofs.lemmas.Bool.{cases_lt}
 use Rattle.cm_model.specs.Types.{or_else}
 use Rattle.cm_model.specs.declared.ty.Ty.{Ty}
@@ -14,7 +15,8 @@ use Rattle.cm_model.specs.declared.ty.EnumDecl.{EnumDecl}
 use Rattle.cm_model.specs.declared.ty.RecDecl.{RecDecl}
 use Rattle.cm_value.proofs.LeastRecords.{value_at}
 use Rattle.cm_value.proofs.Types.{fold-sort, fold-int_type, fold-enum, fold-record, fold-option}
-use Rattle.cm_ctx.specs.Making.{Maker, element_made, number_made, tag_made, option_made, record_made, make_step, made_in, record_maker, record_makers}
+use Rattle.cm_ctx.specs.Making.{Maker, element_made, number_made, tag_made, option_made, record_made, make_step}
+use Rattle.cm_ctx.specs.Making.{made_in, record_maker, record_makers}
 use Rattle.cm_ctx.proofs.Growing.{no_maker}
 
 module _ (Q : Ty → Type 0) where

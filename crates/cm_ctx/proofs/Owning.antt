@@ -1,5 +1,6 @@
 -- The variables of a term are those that were made with it.
-use Rattle.std.proofs.Common.{◌≡◌, ◌<◌, ◌≤◌, ◌+◌, ℕ, List, [], ◌∷◌, ◌++◌, map, length, slice_get, refl, sym, ap, subst, ◌∙◌, arith}
+use Rattle.std.proofs.Common.{◌≡◌, ◌<◌, ◌≤◌, ◌+◌, ℕ, List, [], ◌∷◌, ◌++◌, map, length, slice_get, refl, sym, ap, subst}
+use Rattle.std.proofs.Common.{◌∙◌, arith}
 use Rattle.std.specs.List.{AllByRecursion, flat_map}
 use Rattle.std.proofs.lemmas.List.{length-append}
 use Rattle.cm_model.specs.Tables.{Tables}
@@ -17,7 +18,9 @@ use Rattle.cm_ctx.specs.declared.piece.Piece.{Piece}
 use Rattle.cm_ctx.specs.declared.piece.Variables.{Variables}
 use Rattle.cm_ctx.specs.Asking.{Owns}
 use Rattle.cm_ctx.specs.Belonging.{OwnsTerm, OwnsAll}
-use Rattle.cm_ctx.specs.Making.{Place, place, into, behind, sym_of, counted, both, variables, Maker, Fields, fields_made, element_made, number_made, tag_made, option_made, record_made, made_of, piece_of}
+use Rattle.cm_ctx.specs.Making.{Place, place, into, behind, sym_of, counted, both, variables, Maker, Fields}
+use Rattle.cm_ctx.specs.Making.{fields_made, element_made, number_made, tag_made, option_made, record_made, made_of}
+use Rattle.cm_ctx.specs.Making.{piece_of}
 use Rattle.cm_ctx.proofs.Makers.{maker_ind}
 
 -- a variable is one of these

@@ -1,5 +1,7 @@
 -- On which variables the value of a term rests, and what is so of all that is made.
-use Rattle.std.proofs.Common.{◌≡◌, ◌<◌, ◌≤◌, ◌+◌, ◌==◌, ◌↔◌, ◌&&◌, Bool, true, false, if◌then◌else◌, IsTrue, leb, ℕ, zero, suc, ℤ, pos, negsuc, ◌+ℤ◌, ◌≤ℤ◌, List, [], ◌∷◌, ◌++◌, map, length, slice_get, Option, Some, None, refl, sym, ap, subst, ◌∙◌, arith}
+use Rattle.std.proofs.Common.{◌≡◌, ◌<◌, ◌≤◌, ◌+◌, ◌==◌, ◌↔◌, ◌&&◌, Bool, true, false, if◌then◌else◌, IsTrue, leb, ℕ}
+use Rattle.std.proofs.Common.{zero, suc, ℤ, pos, negsuc, ◌+ℤ◌, ◌≤ℤ◌, List, [], ◌∷◌, ◌++◌, map, length, slice_get}
+use Rattle.std.proofs.Common.{Option, Some, None, refl, sym, ap, subst, ◌∙◌, arith}
 use Rattle.std.specs.List.{list_all}
 use Rattle.cm_model.specs.declared.ty.Ty.{Ty}
 use Rattle.cm_model.specs.declared.ty.Part.{Part}
@@ -21,7 +23,10 @@ use Rattle.cm_ctx.specs.declared.piece.NumberPart.{NumberPart}
 use Rattle.cm_ctx.specs.declared.piece.TagPart.{TagPart}
 use Rattle.cm_ctx.specs.declared.piece.OptionPart.{OptionPart}
 use Rattle.cm_ctx.specs.declared.piece.Variables.{Variables}
-use Rattle.cm_ctx.specs.Making.{Place, place, into, behind, sym_of, counts, counted, both, variables, Made, Maker, Fields, fields_made, no_fields, first_field, of_fields, element_made, number_made, tag_made, option_made, with_option, record_made, made_in, record_makers, variants_of, highest}
+use Rattle.cm_ctx.specs.Making.{Place, place, into, behind, sym_of, counts, counted, both, variables, Made, Maker}
+use Rattle.cm_ctx.specs.Making.{Fields, fields_made, no_fields, first_field, of_fields, element_made, number_made}
+use Rattle.cm_ctx.specs.Making.{tag_made, option_made, with_option, record_made, made_in, record_makers, variants_of}
+use Rattle.cm_ctx.specs.Making.{highest}
 use Rattle.cm_ctx.specs.Giving.{EachFrom, Gives, Agree, IsWithin, IsVariant, HasPayload}
 use Rattle.cm_ctx.proofs.Each.{each_append, each_so}
 use Rattle.cm_ctx.proofs.Growing.{counted_both}

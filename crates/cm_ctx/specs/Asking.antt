@@ -1,5 +1,6 @@
 -- Which symbols were asked for, and how what was made for them is found.
-use Rattle.std.specs.Prelude.{◌≡◌, ◌≢◌, ◌<◌, ◌≤◌, ◌+◌, ◌-◌, ◌*◌, ◌==◌, ℕ, if◌then◌else◌, List, [], ◌∷◌, length, slice_get, slice_index_or, Some}
+use Rattle.std.specs.Prelude.{◌≡◌, ◌≢◌, ◌<◌, ◌≤◌, ◌+◌, ◌-◌, ◌*◌, ◌==◌, ℕ, if◌then◌else◌, List, [], ◌∷◌, length}
+use Rattle.std.specs.Prelude.{slice_get, slice_index_or, Some}
 use Rattle.cm_term.specs.declared.symbol.Root.{Root}
 use Rattle.cm_term.specs.declared.symbol.Root.TheVariants as root
 use Rattle.cm_term.specs.declared.term.Term.{Term}

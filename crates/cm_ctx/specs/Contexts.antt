@@ -1,5 +1,6 @@
 -- What is known of the variables of terms, and which valuations satisfy it.
-use Rattle.std.specs.Prelude.{◌≡◌, ◌<◌, ◌+◌, ◌↔◌, ℕ, ℤ, pos, neg_ℤ, ◌≤ℤ◌, List, [], ◌∷◌, ◌++◌, map, length, slice_get, slice_index, Option, Some, None, IsTrue}
+use Rattle.std.specs.Prelude.{◌≡◌, ◌<◌, ◌+◌, ◌↔◌, ℕ, ℤ, pos, neg_ℤ, ◌≤ℤ◌, List, [], ◌∷◌, ◌++◌, map, length, slice_get}
+use Rattle.std.specs.Prelude.{slice_index, Option, Some, None, IsTrue}
 use Rattle.cm_sorts.specs.Partition.{Partition}
 use Rattle.cm_sorts.specs.Partition as sorts
 use Rattle.cm_order.specs.Differences.{Differences}

@@ -8,7 +8,8 @@ use Rattle.cm_term.specs.declared.symbol.Step.{Step}
 use Rattle.cm_term.specs.declared.term.Term.{Term}
 use Rattle.cm_ctx.specs.declared.piece.Variables.{Variables}
 use Rattle.cm_ctx.specs.declared.making.Making.{Making}
-use Rattle.cm_ctx.specs.Making.{Place, place, counted, both, Made, Maker, Fields, fields_made, made_in, record_makers, record_made}
+use Rattle.cm_ctx.specs.Making.{Place, place, counted, both, Made, Maker, Fields, fields_made, made_in, record_makers}
+use Rattle.cm_ctx.specs.Making.{record_made}
 
 -- where the next part is made
 abbrev pub at : Making → List Step → Variables → Place

@@ -1,6 +1,7 @@
 //! What was made for the symbols that were asked for.
 
-ghost use Rattle.std.specs.Prelude.{◌≡◌, ◌↔◌, ◌<◌, ◌≤◌, ◌-◌, ◌+◌, ◌*◌, ◌==◌, ◌++◌, ◌∷◌, [], ℕ, Some, IsTrue, IfOk, if◌then◌else◌, length, replicate, slice_get, slice_index_or};
+ghost use Rattle.std.specs.Prelude.{◌≡◌, ◌↔◌, ◌<◌, ◌≤◌, ◌-◌, ◌+◌, ◌*◌, ◌==◌, ◌++◌, ◌∷◌, [], ℕ, Some, IsTrue, IfOk};
+ghost use Rattle.std.specs.Prelude.{if◌then◌else◌, length, replicate, slice_get, slice_index_or};
 ghost use Rattle.cm_ctx.specs.declared.piece.Piece.{Piece};
 ghost use Rattle.cm_ctx.specs.Contexts.{payloads_in, payloads_of};
 ghost use Rattle.cm_ctx.specs.Naming.{syms_of};

@@ -1,6 +1,7 @@
 //! Contexts.
 
-ghost use Rattle.std.specs.Prelude.{◌≡◌, ◌≢◌, ◌<◌, ◌+◌, ◌-◌, ◌++◌, ◌∷◌, ◌↔◌, [], ℕ, Some, true, None, IsTrue, IfOk, OnOk, OnErr, length, map, slice_get};
+ghost use Rattle.std.specs.Prelude.{◌≡◌, ◌≢◌, ◌<◌, ◌+◌, ◌-◌, ◌++◌, ◌∷◌, ◌↔◌, [], ℕ, Some, true, None, IsTrue, IfOk};
+ghost use Rattle.std.specs.Prelude.{OnOk, OnErr, length, map, slice_get};
 ghost use Rattle.cm_model.specs.Types.{IsType};
 ghost use Rattle.cm_value.specs.Membership.{IsValueOf};
 ghost use Rattle.cm_value.specs.declared.value.Value.{Value};
@@ -18,7 +19,8 @@ ghost use Rattle.cm_ctx.specs.Giving.{Gives, Agree};
 ghost use Rattle.cm_ctx.specs.Belonging.{OwnsAll, PayloadsHold, Names};
 ghost use Rattle.cm_ctx.specs.Grown.{IsFitting, Grows};
 ghost use Rattle.cm_ctx.specs.Asking.{IsAmong, IsNew, IsPayload, InRow, Owns};
-ghost use Rattle.cm_ctx.specs.Contexts.{Satisfies, Allows, Keeps, Implies, IsSatisfiable, IsQuestion, HasSpare, counts_of, payloads_of};
+ghost use Rattle.cm_ctx.specs.Contexts.{Satisfies, Allows, Keeps, Implies, IsSatisfiable, IsQuestion, HasSpare};
+ghost use Rattle.cm_ctx.specs.Contexts.{counts_of, payloads_of};
 ghost use Rattle.cm_ctx.specs.declared.naming.Kind.TheVariants as kind;
 ghost use Rattle.cm_ctx.specs.Naming.{syms_of};
 ghost use Rattle.cm_ctx.specs.Knowing.{known_of};

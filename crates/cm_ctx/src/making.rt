@@ -3,7 +3,8 @@
 ghost use Rattle.std.specs.Prelude.{◌≡◌, ◌+◌, ◌++◌, ◌∷◌, [], length, slice_get, IfOk, OnOk};
 ghost use Rattle.cm_value.specs.Least.{lowest};
 ghost use Rattle.cm_ctx.specs.declared.piece.Variables.{Variables};
-ghost use Rattle.cm_ctx.specs.Making.{Made, element_made, number_made, tag_made, option_made, with_option, fields_made, variants_of, highest};
+ghost use Rattle.cm_ctx.specs.Making.{Made, element_made, number_made, tag_made, option_made, with_option, fields_made};
+ghost use Rattle.cm_ctx.specs.Making.{variants_of, highest};
 ghost use Rattle.cm_term.specs.declared.symbol.Step.TheVariants as step;
 ghost use Rattle.cm_term.specs.declared.term.Term.TheVariants as term;
 ghost use Rattle.cm_ctx.specs.Growth.{at, maker_of, field_makers, maker_at, Adds, AddsFields};

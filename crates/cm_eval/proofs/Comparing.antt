@@ -1,5 +1,6 @@
 -- A comparison goes on with whether the two values are equal. It stops only where they are of no one type.
-use Rattle.std.proofs.Common.{◌≡◌, ◌⊎◌, inl, inr, ℕ, ℤ, ◌==◌, ltb, int_lt, Bool, true, false, ◌&&◌, List, [], ◌∷◌, map, Option, Some, None, slice_get, IsTrue, refl, sym, ap, ◌∙◌, subst, if◌then◌else◌, arith}
+use Rattle.std.proofs.Common.{◌≡◌, ◌⊎◌, inl, inr, ℕ, ℤ, ◌==◌, ltb, int_lt, Bool, true, false, ◌&&◌, List, [], ◌∷◌, map}
+use Rattle.std.proofs.Common.{Option, Some, None, slice_get, IsTrue, refl, sym, ap, ◌∙◌, subst, if◌then◌else◌, arith}
 use Rattle.std.specs.Ordering.{int_eq}
 use Rattle.std.proofs.lemmas.Bool.{and_parts}
 use Rattle.std.proofs.lemmas.Bool.{lt-ltb}
@@ -16,12 +17,15 @@ use Rattle.cm_value.specs.declared.value.Value.TheVariants as value
 use Rattle.cm_value.specs.declared.value.Value.TheViews.{roll-out-Value}
 use Rattle.cm_value.specs.declared.value.Value.TheOpen.{Value-F}
 use Rattle.cm_value.specs.declared.value.Value.TheViews.{roll-Value}
-use Rattle.cm_value.specs.Membership.{IsValueOf, is_value_of, are_values_of, member_of, is_sort, is_number_of, is_variant_of, is_record_of, is_none_of, is_some_of, has_fields, field_types}
+use Rattle.cm_value.specs.Membership.{IsValueOf, is_value_of, are_values_of, member_of, is_sort, is_number_of}
+use Rattle.cm_value.specs.Membership.{is_variant_of, is_record_of, is_none_of, is_some_of, has_fields, field_types}
 use Rattle.cm_value.proofs.Folds.{fold-elem, fold-int, fold-tag, fold-rec, fold-none, fold-some}
 use Rattle.cm_value.proofs.Members.{member-elem, member-int, member-tag, member-rec, member-none, member-some}
 use Rattle.cm_value.proofs.Limited.{value_is_limited, limited_tag}
 use Rattle.cm_value.proofs.Induction.{Each, value_ind}
-use Rattle.cm_eval.specs.Comparison.{Comparing, comparison, comparison_step, fields_compared, payload_compared, or_stop, elem_in, int_in, tag_in, parts_in, option_in, variant, distinguished, ordered, presence}
+use Rattle.cm_eval.specs.Comparison.{Comparing, comparison, comparison_step, fields_compared, payload_compared, or_stop}
+use Rattle.cm_eval.specs.Comparison.{elem_in, int_in, tag_in, parts_in, option_in, variant, distinguished, ordered}
+use Rattle.cm_eval.specs.Comparison.{presence}
 use Rattle.cm_eval.proofs.Examples.{out_elem, out_int, out_tag, out_rec, out_none, out_some}
 use Rattle.cm_eval.specs.State.{same_value, same_form, all_same}
 
@@ -94,7 +98,8 @@ module _ (X : Type 0) (stop : X) (decide : ℕ → (ℕ → X) → X) (P : X →
   same_step x v = same_form x (out-Value v)
 
   -- values of two forms
-  apart : (v w : Value) → f.Fit v w → (x y : Value-F Value) → out-Value v ≡ x → out-Value w ≡ y → (form_of x ≡ form_of y → ⊥) → P stop
+  apart : (v w : Value) → f.Fit v w → (x y : Value-F Value) → out-Value v ≡ x → out-Value w ≡ y
+      → (form_of x ≡ form_of y → ⊥) → P stop
   apart v w fit x y a b ne = f.apart v w fit (λ e. ne (sym (ap form_of a) ∙ e ∙ ap form_of b))
 
   elem_goes : (n : ℕ) → Goes (value.Elem n)
@@ -126,7 +131,8 @@ module _ (X : Type 0) (stop : X) (decide : ℕ → (ℕ → X) → X) (P : X →
       by (Value-F.Some v) is h = apart (value.Int n) w fit (Value-F.Int n) _ (out_int n) is (λ e. cc)
 
   -- a variant, or it is all right to stop
-  few : (n : ℕ) → (P stop ⊎ IsTrue (ltb n variant_limit)) → (more : ℕ → X) → P (more n) → P (or_stop stop (variant n) more)
+  few : (n : ℕ) → (P stop ⊎ IsTrue (ltb n variant_limit)) → (more : ℕ → X) → P (more n)
+      → P (or_stop stop (variant n) more)
   few n (inl h) more p = by (ltb n variant_limit)
     where
       by : (b : Bool) → P (or_stop stop (if b then Some n else None) more)
@@ -137,12 +143,14 @@ module _ (X : Type 0) (stop : X) (decide : ℕ → (ℕ → X) → X) (P : X →
   tag_goes : (n : ℕ) → Goes (value.Tag n)
   tag_goes n w k fit h =
       subst P (sym (ap (λ (m : Comparing X). m w k) (fold-tag step n)))
-      (few n (f.left n w fit) _ (by (out-Value w) refl (subst (λ (f : Value → Bool). P (k (f w))) (fold-tag same_step n) h)))
+      (few n (f.left n w fit) _ (by (out-Value w) refl (subst (λ (f : Value → Bool). P (k (f w))) (fold-tag same_step n)
+      h)))
     where
       by : (y : Value-F Value) → out-Value w ≡ y → P (k (same_form (Value-F.Tag n) y))
           → P (or_stop stop (tag_in y) (λ r. decide n (λ d. decide r (λ e. k (d == e)))))
       by (Value-F.Tag m) is h =
-          few m (f.right (value.Tag n) m (subst (f.Fit (value.Tag n)) (whole w (Value-F.Tag m) is ∙ value.rolls-Tag m) fit)) _
+          few m (f.right (value.Tag n) m (subst (f.Fit (value.Tag n)) (whole w (Value-F.Tag m) is ∙ value.rolls-Tag m)
+          fit)) _
           (decides _ _ (decides _ _ h))
       by (Value-F.Elem m) is h = apart (value.Tag n) w fit (Value-F.Tag n) _ (out_tag n) is (λ e. cc)
       by (Value-F.Int m) is h = apart (value.Tag n) w fit (Value-F.Tag n) _ (out_tag n) is (λ e. cc)
@@ -160,10 +168,12 @@ module _ (X : Type 0) (stop : X) (decide : ℕ → (ℕ → X) → X) (P : X →
   fields_go (v ∷ vs) each [] k fit h = f.longer v vs fit
   fields_go (v ∷ vs) each (w ∷ ws) k fit h =
       let both = f.heads v w vs ws fit in
-      each.0 w (λ s. if s then fields_compared X stop (map meaning vs) ws k else k false) both.0 (by (fields_go vs each.1 ws k both.1) (same_value v w) h)
+      each.0 w (λ s. if s then fields_compared X stop (map meaning vs) ws k else k false) both.0
+      (by (fields_go vs each.1 ws k both.1) (same_value v w) h)
     where
       by : (P (k (all_same (map same_value vs) ws)) → P (fields_compared X stop (map meaning vs) ws k))
-          → (b : Bool) → P (k (b && all_same (map same_value vs) ws)) → P (if b then fields_compared X stop (map meaning vs) ws k else k false)
+          → (b : Bool) → P (k (b && all_same (map same_value vs) ws))
+          → P (if b then fields_compared X stop (map meaning vs) ws k else k false)
       by more true h = more h
       by more false h = h
 
@@ -175,7 +185,8 @@ module _ (X : Type 0) (stop : X) (decide : ℕ → (ℕ → X) → X) (P : X →
       by : (y : Value-F Value) → out-Value w ≡ y → P (k (same_form (Value-F.Rec (map same_value vs)) y))
           → P (or_stop stop (parts_in y) (λ ws. fields_compared X stop (map meaning vs) ws k))
       by (Value-F.Rec ws) is h =
-          fields_go vs each ws k (f.fields vs ws (subst (f.Fit (value.Rec vs)) (whole w (Value-F.Rec ws) is ∙ value.rolls-Rec ws) fit)) h
+          fields_go vs each ws k (f.fields vs ws (subst (f.Fit (value.Rec vs)) (whole w (Value-F.Rec ws) is
+          ∙ value.rolls-Rec ws) fit)) h
       by (Value-F.Elem m) is h = apart (value.Rec vs) w fit (Value-F.Rec vs) _ (out_rec vs) is (λ e. cc)
       by (Value-F.Int m) is h = apart (value.Rec vs) w fit (Value-F.Rec vs) _ (out_rec vs) is (λ e. cc)
       by (Value-F.Tag m) is h = apart (value.Rec vs) w fit (Value-F.Rec vs) _ (out_rec vs) is (λ e. cc)
@@ -202,10 +213,12 @@ module _ (X : Type 0) (stop : X) (decide : ℕ → (ℕ → X) → X) (P : X →
       (by (out-Value w) refl (subst (λ (f : Value → Bool). P (k (f w))) (fold-some same_step v) h))
     where
       by : (y : Value-F Value) → out-Value w ≡ y → P (k (same_form (Value-F.Some (same_value v)) y))
-          → P (or_stop stop (option_in y) (λ o. decide 1 (λ d. decide (presence o) (λ e. payload_compared X (meaning v) o k))))
+          → P (or_stop stop (option_in y)
+          (λ o. decide 1 (λ d. decide (presence o) (λ e. payload_compared X (meaning v) o k))))
       by Value-F.None is h = decides _ _ (decides _ _ h)
       by (Value-F.Some x) is h =
-          decides _ _ (decides _ _ (goes x k (f.payload v x (subst (f.Fit (value.Some v)) (whole w (Value-F.Some x) is ∙ value.rolls-Some x) fit)) h))
+          decides _ _ (decides _ _ (goes x k (f.payload v x (subst (f.Fit (value.Some v)) (whole w (Value-F.Some x) is
+          ∙ value.rolls-Some x) fit)) h))
       by (Value-F.Elem m) is h = apart (value.Some v) w fit (Value-F.Some v) _ (out_some v) is (λ e. cc)
       by (Value-F.Int m) is h = apart (value.Some v) w fit (Value-F.Some v) _ (out_some v) is (λ e. cc)
       by (Value-F.Tag m) is h = apart (value.Some v) w fit (Value-F.Some v) _ (out_some v) is (λ e. cc)
@@ -230,7 +243,8 @@ any_fit h = record {
 }
 
 -- a comparison of any two values stops, or goes on with whether they are equal
-pub comparison_goes : (X : Type 0) (stop : X) (decide : ℕ → (ℕ → X) → X) (P : X → Type 0) → ((d : ℕ) (k : ℕ → X) → P (k d) → P (decide d k))
+pub comparison_goes : (X : Type 0) (stop : X) (decide : ℕ → (ℕ → X) → X) (P : X → Type 0)
+    → ((d : ℕ) (k : ℕ → X) → P (k d) → P (decide d k))
     → P stop → (v w : Value) (k : Bool → X) → P (k (same_value v w)) → P (comparison X stop decide v w k)
 comparison_goes X stop decide P decides h v w k = goes X stop decide P decides (any_fit h) v w k tt
 
@@ -279,15 +293,21 @@ module _ (t : Tables) where
 
   -- the values of a type have one form
   one_form : (u : Ty) (v : Value) → IsValueOf t u v → Form (out-Value v) (out-Ty u)
-  one_form u v is = subst (λ w. IsValueOf t u w → Form (out-Value v) (out-Ty u)) (roll-out-Value v) (by (out-Value v)) is
+  one_form u v is = subst (λ w. IsValueOf t u w → Form (out-Value v) (out-Ty u)) (roll-out-Value v) (by (out-Value v))
+      is
     where
       by : (y : Value-F Value) → IsValueOf t u (roll-Value y) → Form y (out-Ty u)
-      by (Value-F.Elem n) is = sort_form n (out-Ty u) (sym (ap (is_value_of t u) (value.rolls-Elem n) ∙ member-elem t u n) ∙ is)
-      by (Value-F.Int n) is = int_form n (out-Ty u) (sym (ap (is_value_of t u) (value.rolls-Int n) ∙ member-int t u n) ∙ is)
-      by (Value-F.Tag n) is = enum_form n (out-Ty u) (sym (ap (is_value_of t u) (value.rolls-Tag n) ∙ member-tag t u n) ∙ is)
-      by (Value-F.Rec vs) is = rec_form vs (out-Ty u) (sym (ap (is_value_of t u) (value.rolls-Rec vs) ∙ member-rec t u vs) ∙ is)
+      by (Value-F.Elem n) is = sort_form n (out-Ty u) (sym (ap (is_value_of t u) (value.rolls-Elem n)
+          ∙ member-elem t u n) ∙ is)
+      by (Value-F.Int n) is = int_form n (out-Ty u) (sym (ap (is_value_of t u) (value.rolls-Int n) ∙ member-int t u n)
+          ∙ is)
+      by (Value-F.Tag n) is = enum_form n (out-Ty u) (sym (ap (is_value_of t u) (value.rolls-Tag n) ∙ member-tag t u n)
+          ∙ is)
+      by (Value-F.Rec vs) is = rec_form vs (out-Ty u) (sym (ap (is_value_of t u) (value.rolls-Rec vs)
+          ∙ member-rec t u vs) ∙ is)
       by Value-F.None is = none_form (out-Ty u) (sym (ap (is_value_of t u) value.rolls-None ∙ member-none t u) ∙ is)
-      by (Value-F.Some v) is = some_form v (out-Ty u) (sym (ap (is_value_of t u) (value.rolls-Some v) ∙ member-some t u v) ∙ is)
+      by (Value-F.Some v) is = some_form v (out-Ty u) (sym (ap (is_value_of t u) (value.rolls-Some v)
+          ∙ member-some t u v) ∙ is)
 
   abbrev pub SameType : Value → Value → Type 0
   SameType v w = (u : Ty) × IsValueOf t u v × IsValueOf t u w
@@ -302,11 +322,13 @@ module _ (t : Tables) where
   record_types : (vs ws : List Value) → SameType (value.Rec vs) (value.Rec ws) → SameTypes vs ws
   record_types vs ws h = by (out-Ty h.0) (sym (member-rec t h.0 vs) ∙ h.1) (sym (member-rec t h.0 ws) ∙ h.2)
     where
-      found : (o : Option RecDecl) → has_fields o (map (member_of t) vs) ≡ true → has_fields o (map (member_of t) ws) ≡ true → SameTypes vs ws
+      found : (o : Option RecDecl) → has_fields o (map (member_of t) vs) ≡ true
+          → has_fields o (map (member_of t) ws) ≡ true → SameTypes vs ws
       found (Some d) a b = (field_types d, a, b)
       found None a b = absurd (cc)
 
-      by : (x : Ty-F Ty) → is_record_of t x (map (member_of t) vs) ≡ true → is_record_of t x (map (member_of t) ws) ≡ true → SameTypes vs ws
+      by : (x : Ty-F Ty) → is_record_of t x (map (member_of t) vs) ≡ true
+          → is_record_of t x (map (member_of t) ws) ≡ true → SameTypes vs ws
       by (Ty-F.Rec r) a b = found (slice_get t.records r) a b
       by (Ty-F.Sort s) a b = absurd (cc)
       by (Ty-F.Int i) a b = absurd (cc)
@@ -329,7 +351,8 @@ module _ (t : Tables) where
   both_heads : (v w : Value) (vs ws : List Value) → SameTypes (v ∷ vs) (w ∷ ws) → SameType v w × SameTypes vs ws
   both_heads v w vs ws h = by h.0 h.1 h.2
     where
-      by : (us : List Ty) → are_values_of t us (v ∷ vs) ≡ true → are_values_of t us (w ∷ ws) ≡ true → SameType v w × SameTypes vs ws
+      by : (us : List Ty) → are_values_of t us (v ∷ vs) ≡ true → are_values_of t us (w ∷ ws) ≡ true
+          → SameType v w × SameTypes vs ws
       by [] a b = absurd (cc)
       by (u ∷ us) a b =
           let c = and_parts (is_value_of t u v) (are_values_of t us vs) a in
@@ -362,6 +385,7 @@ module _ (t : Tables) where
 
   -- a comparison of two values of one type goes on with whether they are equal
   pub typed_goes : IsWellTyped t → (X : Type 0) (stop : X) (decide : ℕ → (ℕ → X) → X) (P : X → Type 0)
-      → ((d : ℕ) (k : ℕ → X) → P (k d) → P (decide d k)) → (u : Ty) (v w : Value) (k : Bool → X) → IsValueOf t u v → IsValueOf t u w
+      → ((d : ℕ) (k : ℕ → X) → P (k d) → P (decide d k)) → (u : Ty) (v w : Value) (k : Bool → X) → IsValueOf t u v
+      → IsValueOf t u w
       → P (k (same_value v w)) → P (comparison X stop decide v w k)
   typed_goes typed X stop decide P decides u v w k a b = goes X stop decide P decides (types_fit typed) v w k (u, a, b)

@@ -1,5 +1,6 @@
 -- What is said of values alone is what the rules say on values: one line a form.
-use Rattle.std.proofs.Common.{◌≡◌, ℕ, ◌==◌, ℤ, ◌+ℤ◌, Bool, true, false, not, List, [], ◌∷◌, ◌++◌, map, Option, Some, None, refl, sym, ap, ◌∙◌, slice_get, if◌then◌else◌}
+use Rattle.std.proofs.Common.{◌≡◌, ℕ, ◌==◌, ℤ, ◌+ℤ◌, Bool, true, false, not, List, [], ◌∷◌, ◌++◌, map, Option, Some}
+use Rattle.std.proofs.Common.{None, refl, sym, ap, ◌∙◌, slice_get, if◌then◌else◌}
 use Rattle.std.proofs.Math.Path.{fun_ext}
 use Rattle.cm_model.specs.Tables.{Tables}
 use Rattle.cm_model.specs.declared.ty.IntDecl.{IntDecl}
@@ -65,7 +66,8 @@ any_same (m ∷ ms) locals k =
     ap (λ rest. evaluation.inspected m locals (λ s. if s then k true else rest)) (any_same ms locals k)
 
 keyed_same : (s : ℕ) (key : Option Meaning) (locals : List Value) (k : CellName → Doing)
-    → evaluation.cell_of s key locals k ≡ language.keyed Value Operand Doing values key locals (λ c. k (evaluation.named s c))
+    → evaluation.cell_of s key locals k ≡ language.keyed Value Operand Doing values key locals
+    (λ c. k (evaluation.named s c))
 keyed_same s None locals k = refl
 keyed_same s (Some m) locals k = valued_same m locals (λ v. k (evaluation.named s (Some v)))
 
@@ -112,8 +114,10 @@ shift_same : (n : Option ℤ) (by : ℤ) (k : Operand → Doing)
 shift_same (Some n) by k = refl
 shift_same None by k = refl
 
-step_same : (ints : List IntDecl) (funs : List Called) (y : Expr-F Meaning SetMeaning) (locals : List Value) (k : Operand → Doing)
-    → evaluation.meaning_step ints funs y locals k ≡ language.meaning_step Value Operand Doing values ints funs y locals k
+step_same : (ints : List IntDecl) (funs : List Called) (y : Expr-F Meaning SetMeaning) (locals : List Value)
+    (k : Operand → Doing)
+    → evaluation.meaning_step ints funs y locals k ≡ language.meaning_step Value Operand Doing values
+    ints funs y locals k
 step_same ints funs (Expr-F.Num n) locals k = refl
 step_same ints funs (Expr-F.Tag e i) locals k = refl
 step_same ints funs (Expr-F.Local i) locals k = given_same (slice_get locals i) (λ v. k (operand.Plain v))
@@ -125,20 +129,24 @@ step_same ints funs (Expr-F.Fields e path) locals k =
     ∙ ap (λ o. language.given Value Operand Doing values o (λ w. k (operand.Plain w))) (path_same (Some v) path)))
 step_same ints funs (Expr-F.With e sets) locals k =
     valued_same e locals (λ v. evaluation.sets_of v sets locals (λ w. k (operand.Plain w)))
-    ∙ ap (language.valued Value Operand Doing values e locals) (fun_ext (λ v. sets_same v sets locals (λ w. k (operand.Plain w))))
-step_same ints funs (Expr-F.Make r parts) locals k = values_same [] parts locals (λ vs. k (operand.Plain (value.Rec vs)))
+    ∙ ap (language.valued Value Operand Doing values e locals)
+    (fun_ext (λ v. sets_same v sets locals (λ w. k (operand.Plain w))))
+step_same ints funs (Expr-F.Make r parts) locals k = values_same [] parts locals
+    (λ vs. k (operand.Plain (value.Rec vs)))
 step_same ints funs (Expr-F.NoneOf t) locals k = refl
 step_same ints funs (Expr-F.SomeOf e) locals k = valued_same e locals (λ v. k (operand.Plain (value.Some v)))
 step_same ints funs (Expr-F.Shift e by) locals k = ap (e locals) (fun_ext (λ o. shift_same (number_of o) by k))
 step_same ints funs (Expr-F.Into i e) locals k = ap (e locals) (fun_ext (λ o. into_same (slice_get ints i) o k))
 step_same ints funs (Expr-F.Compare o left right) locals k =
-    ap (left locals) (fun_ext (λ x. ap (right locals) (fun_ext (λ y. compares_same o x y (λ s. k (evaluation.flag s))))))
+    ap (left locals) (fun_ext (λ x. ap (right locals)
+    (fun_ext (λ y. compares_same o x y (λ s. k (evaluation.flag s))))))
 step_same ints funs (Expr-F.All es) locals k = all_same es locals (λ s. k (evaluation.flag s))
 step_same ints funs (Expr-F.Any es) locals k = any_same es locals (λ s. k (evaluation.flag s))
 step_same ints funs (Expr-F.Not e) locals k = refl
 step_same ints funs (Expr-F.Apply f args) locals k =
     values_same [] args locals (λ vs. evaluation.fun_at funs f vs (λ v. k (operand.Plain v)))
-    ∙ ap (language.values_of Value Operand Doing values [] args locals) (fun_ext (λ vs. fun_same funs f vs (λ v. k (operand.Plain v))))
+    ∙ ap (language.values_of Value Operand Doing values [] args locals)
+    (fun_ext (λ vs. fun_same funs f vs (λ v. k (operand.Plain v))))
 
 pub meaning_same : (ints : List IntDecl) (funs : List Called)
     → evaluation.meaning_of ints funs ≡ language.meaning_of Value Operand Doing values ints funs
@@ -152,41 +160,55 @@ key_same ints funs None = refl
 key_same ints funs (Some e) = ap (λ m. Some (m e)) (meaning_same ints funs)
 
 opens_same : (m : Meaning) (locals : List Value) (k : Option Value → Doing)
-    → evaluation.opened m locals k ≡ language.valued Value Operand Doing values m locals (λ v. evaluation.opens (option_of v) k)
+    → evaluation.opened m locals k ≡ language.valued Value Operand Doing values m locals
+    (λ v. evaluation.opens (option_of v) k)
 opens_same m locals k = valued_same m locals (λ v. evaluation.opens (option_of v) k)
 
-branches_same : (left right : List Turn) (o : Option Value) (locals : List Value) (ret : Value → Doing) (next : List Value → Doing)
-    → evaluation.case_branch left right o locals ret next ≡ language.case_branch Value Doing left right o locals ret next
+branches_same : (left right : List Turn) (o : Option Value) (locals : List Value) (ret : Value
+    → Doing) (next : List Value → Doing)
+    → evaluation.case_branch left right o locals ret next ≡ language.case_branch Value Doing left right
+    o locals ret next
 branches_same left right (Some v) locals ret next = block_same right (locals ++ v ∷ []) ret (λ _. next locals)
 branches_same left right None locals ret next = block_same left locals ret (λ _. next locals)
 
-turn_same : (ints : List IntDecl) (funs : List Called) (y : Stmt-F Turn) (locals : List Value) (ret : Value → Doing) (next : List Value → Doing)
-    → evaluation.turn_step ints funs y locals ret next ≡ language.turn_step Value Operand Doing values ints funs y locals ret next
+turn_same : (ints : List IntDecl) (funs : List Called) (y : Stmt-F Turn) (locals : List Value) (ret : Value
+    → Doing) (next : List Value → Doing)
+    → evaluation.turn_step ints funs y locals ret next ≡ language.turn_step Value Operand Doing values
+    ints funs y locals ret next
 turn_same ints funs (Stmt-F.Let e) locals ret next =
     valued_same (evaluation.meaning_of ints funs e) locals (λ v. next (locals ++ v ∷ []))
-    ∙ ap (λ m. language.valued Value Operand Doing values (m e) locals (λ v. next (locals ++ v ∷ []))) (meaning_same ints funs)
+    ∙ ap (λ m. language.valued Value Operand Doing values (m e) locals (λ v. next (locals ++ v ∷ [])))
+    (meaning_same ints funs)
 turn_same ints funs (Stmt-F.Set s key e) locals ret next =
     keyed_same s (evaluation.key_meaning ints funs key) locals (λ c.
     evaluation.valued (evaluation.meaning_of ints funs e) locals (λ v. Writes c v (next locals)))
     ∙ ap (λ m. language.keyed Value Operand Doing values m locals (λ c.
-    evaluation.valued (evaluation.meaning_of ints funs e) locals (λ v. Writes (evaluation.named s c) v (next locals)))) (key_same ints funs key)
-    ∙ ap (language.keyed Value Operand Doing values (language.key_meaning Value Operand Doing values ints funs key) locals) (fun_ext (λ c.
+    evaluation.valued (evaluation.meaning_of ints funs e) locals (λ v. Writes (evaluation.named s c) v (next locals))))
+    (key_same ints funs key)
+    ∙ ap (language.keyed Value Operand Doing values (language.key_meaning Value Operand Doing values ints funs key)
+    locals) (fun_ext (λ c.
     valued_same (evaluation.meaning_of ints funs e) locals (λ v. Writes (evaluation.named s c) v (next locals))
-    ∙ ap (λ m. language.valued Value Operand Doing values (m e) locals (λ v. Writes (evaluation.named s c) v (next locals))) (meaning_same ints funs)))
+    ∙ ap (λ m. language.valued Value Operand Doing values (m e) locals (λ v. Writes (evaluation.named s c)
+    v (next locals))) (meaning_same ints funs)))
 turn_same ints funs (Stmt-F.If c left right) locals ret next =
     ap (λ m. m c locals (λ o. evaluation.inspects o (λ s.
-    if s then evaluation.branch_of left locals ret next else evaluation.branch_of right locals ret next))) (meaning_same ints funs)
-    ∙ ap (language.meaning_of Value Operand Doing values ints funs c locals) (fun_ext (λ o. ap (evaluation.inspects o) (fun_ext (λ s. chosen s))))
+    if s then evaluation.branch_of left locals ret next else evaluation.branch_of right locals ret next)))
+    (meaning_same ints funs)
+    ∙ ap (language.meaning_of Value Operand Doing values ints funs c locals)
+    (fun_ext (λ o. ap (evaluation.inspects o) (fun_ext (λ s. chosen s))))
   where
-    chosen : (s : Bool) → (if s then evaluation.branch_of left locals ret next else evaluation.branch_of right locals ret next)
-        ≡ (if s then language.branch_of Value Doing left locals ret next else language.branch_of Value Doing right locals ret next)
+    chosen : (s : Bool) → (if s then evaluation.branch_of left locals ret next else evaluation.branch_of
+        right locals ret next)
+        ≡ (if s then language.branch_of Value Doing left locals ret next else language.branch_of Value
+        Doing right locals ret next)
     chosen true = block_same left locals ret (λ _. next locals)
     chosen false = block_same right locals ret (λ _. next locals)
 turn_same ints funs (Stmt-F.Case e left right) locals ret next =
     opens_same (evaluation.meaning_of ints funs e) locals (λ o. evaluation.case_branch left right o locals ret next)
     ∙ ap (λ m. language.valued Value Operand Doing values (m e) locals (λ v.
     evaluation.opens (option_of v) (λ o. evaluation.case_branch left right o locals ret next))) (meaning_same ints funs)
-    ∙ ap (language.valued Value Operand Doing values (language.meaning_of Value Operand Doing values ints funs e) locals) (fun_ext (λ v.
+    ∙ ap (language.valued Value Operand Doing values (language.meaning_of Value Operand Doing values ints funs e)
+    locals) (fun_ext (λ v.
     ap (evaluation.opens (option_of v)) (fun_ext (λ o. branches_same left right o locals ret next))))
 turn_same ints funs (Stmt-F.Assume c) locals ret next =
     ap (λ m. m c locals (λ o. evaluation.inspects o (λ s. if s then next locals else Blocks))) (meaning_same ints funs)
@@ -211,7 +233,8 @@ meanings_from_same : (ints : List IntDecl) (before : List Called) (fs : List Cal
 meanings_from_same ints before [] = refl
 meanings_from_same ints before (f ∷ fs) =
     meanings_from_same ints (before ++ evaluation.body_of ints before f.body ∷ []) fs
-    ∙ ap (λ m. language.meanings_from Value Operand Doing values ints (before ++ m ∷ []) fs) (body_same ints before f.body)
+    ∙ ap (λ m. language.meanings_from Value Operand Doing values ints (before ++ m ∷ []) fs)
+    (body_same ints before f.body)
 
 pub meanings_same : (ints : List IntDecl) (fs : List Call)
     → evaluation.meanings ints fs ≡ language.meanings_from Value Operand Doing values ints [] fs
@@ -220,8 +243,10 @@ meanings_same ints fs = meanings_from_same ints [] fs
 
 pub invariant_same : (ints : List IntDecl) (e : Expr) (v : Value)
     → evaluation.invariant_of ints e v ≡ language.invariant_of Value Operand Doing values ints e v
-invariant_same ints e v = ap (λ m. m e (v ∷ []) (λ o. evaluation.inspects o evaluation.replies_if)) (meaning_same ints [])
-    ∙ ap (language.meaning_of Value Operand Doing values ints [] e (v ∷ [])) (fun_ext (λ o. ap (evaluation.inspects o) (fun_ext (λ s. replied s))))
+invariant_same ints e v = ap (λ m. m e (v ∷ []) (λ o. evaluation.inspects o evaluation.replies_if))
+    (meaning_same ints [])
+    ∙ ap (language.meaning_of Value Operand Doing values ints [] e (v ∷ []))
+    (fun_ext (λ o. ap (evaluation.inspects o) (fun_ext (λ s. replied s))))
   where
     replied : (s : Bool) → evaluation.replies_if s ≡ (if s then values.replies (values.flag true) else values.blocks)
     replied true = refl

@@ -32,20 +32,26 @@ out_some v = ap out-Value (sym (value.rolls-Some v)) ∙ out-roll-Value (Value-F
 abbrev step_in : Touched → Value-F (Comparing Trace) → Comparing Trace
 step_in t = comparison_step Trace (Blocked t) (λ d more. Logs t d (more d))
 
-pub elem_compared : (t : Touched) (n : ℕ) (w : Value) (k : Bool → Trace) → compared_in t (value.Elem n) w k ≡ step_in t (Value-F.Elem n) w k
+pub elem_compared : (t : Touched) (n : ℕ) (w : Value) (k : Bool → Trace)
+    → compared_in t (value.Elem n) w k ≡ step_in t (Value-F.Elem n) w k
 elem_compared t n w k = ap (λ (m : Comparing Trace). m w k) (fold-elem (step_in t) n)
 
-pub int_compared : (t : Touched) (n : ℤ) (w : Value) (k : Bool → Trace) → compared_in t (value.Int n) w k ≡ step_in t (Value-F.Int n) w k
+pub int_compared : (t : Touched) (n : ℤ) (w : Value) (k : Bool → Trace)
+    → compared_in t (value.Int n) w k ≡ step_in t (Value-F.Int n) w k
 int_compared t n w k = ap (λ (m : Comparing Trace). m w k) (fold-int (step_in t) n)
 
-pub tag_compared : (t : Touched) (n : ℕ) (w : Value) (k : Bool → Trace) → compared_in t (value.Tag n) w k ≡ step_in t (Value-F.Tag n) w k
+pub tag_compared : (t : Touched) (n : ℕ) (w : Value) (k : Bool → Trace)
+    → compared_in t (value.Tag n) w k ≡ step_in t (Value-F.Tag n) w k
 tag_compared t n w k = ap (λ (m : Comparing Trace). m w k) (fold-tag (step_in t) n)
 
-pub rec_compared : (t : Touched) (vs : List Value) (w : Value) (k : Bool → Trace) → compared_in t (value.Rec vs) w k ≡ step_in t (Value-F.Rec (map (compared_in t) vs)) w k
+pub rec_compared : (t : Touched) (vs : List Value) (w : Value) (k : Bool → Trace)
+    → compared_in t (value.Rec vs) w k ≡ step_in t (Value-F.Rec (map (compared_in t) vs)) w k
 rec_compared t vs w k = ap (λ (m : Comparing Trace). m w k) (fold-rec (step_in t) vs)
 
-pub none_compared : (t : Touched) (w : Value) (k : Bool → Trace) → compared_in t value.None w k ≡ step_in t Value-F.None w k
+pub none_compared : (t : Touched) (w : Value) (k : Bool → Trace)
+    → compared_in t value.None w k ≡ step_in t Value-F.None w k
 none_compared t w k = ap (λ (m : Comparing Trace). m w k) (fold-none (step_in t))
 
-pub some_compared : (t : Touched) (v w : Value) (k : Bool → Trace) → compared_in t (value.Some v) w k ≡ step_in t (Value-F.Some (compared_in t v)) w k
+pub some_compared : (t : Touched) (v w : Value) (k : Bool → Trace) → compared_in t (value.Some v) w k
+    ≡ step_in t (Value-F.Some (compared_in t v)) w k
 some_compared t v w k = ap (λ (m : Comparing Trace). m w k) (fold-some (step_in t) v)

@@ -1,5 +1,6 @@
 -- Where a cell's exception is found.
-use Rattle.std.proofs.Common.{◌≡◌, ℕ, zero, suc, ◌<◌, true, false, List, [], ◌∷◌, Some, None, length, get_or, refl, ap, arith}
+use Rattle.std.proofs.Common.{◌≡◌, ℕ, zero, suc, ◌<◌, true, false, List, [], ◌∷◌, Some, None, length, get_or, refl, ap}
+use Rattle.std.proofs.Common.{arith}
 use Rattle.cm_eval.specs.declared.log.CellName.{CellName}
 use Rattle.cm_eval.specs.declared.state.Except.{Except}
 use Rattle.cm_eval.specs.State.{same_cell}
@@ -10,7 +11,8 @@ use Rattle.cm_eval.proofs.Same.{same_cell_equal}
 abbrev pub Apart : List Except → CellName → ℕ → Type 0
 Apart es c n = (k : ℕ) (d : Except) → k < n → same_cell (get_or es k d).cell c ≡ false
 
-pub found : (es : List Except) (c : CellName) (i : ℕ) (d : Except) → i < length es → Apart es c i → same_cell (get_or es i d).cell c ≡ true → Finds es c (Some i)
+pub found : (es : List Except) (c : CellName) (i : ℕ) (d : Except) → i < length es → Apart es c i
+    → same_cell (get_or es i d).cell c ≡ true → Finds es c (Some i)
 found [] c i d lt apart same = absurd (omega arith)
 found (e ∷ es) c zero d lt apart same =
     (omega arith, (λ o. rw same refl), (λ v. rw (same, same_cell_equal e.cell c same) refl))

@@ -1,5 +1,6 @@
 -- Values are the same where they are equal.
-use Rattle.std.proofs.Common.{◌≡◌, ◌==◌, Bool, true, false, Decides, List, [], ◌∷◌, map, ◌↔◌, Option, Some, None, IsTrue, refl, sym, ap, ◌∙◌, subst, arith}
+use Rattle.std.proofs.Common.{◌≡◌, ◌==◌, Bool, true, false, Decides, List, [], ◌∷◌, map, ◌↔◌, Option, Some, None}
+use Rattle.std.proofs.Common.{IsTrue, refl, sym, ap, ◌∙◌, subst, arith}
 use Rattle.std.proofs.lemmas.Bool.{eqb-true, eq-eqb}
 use Rattle.std.proofs.lemmas.Bool.{and_parts, and_from, false_from_ne_true}
 use Rattle.std.proofs.lemmas.Bool.Decides.{Decides-int_eq}
@@ -89,8 +90,10 @@ forms_told Value-F.None = refl
 forms_told (Value-F.Some p) = p.1.1
 
 tells : (v : Value) → Tells (same_value v) v
-tells = fold_related (Value → Bool) Tells (λ x v. same_form x (out-Value v)) (λ y.
-    ((λ w h. ap roll-Value (forms_equal y (out-Value w) h) ∙ roll-out-Value w), rw (out-roll-Value (parts y)) (forms_told y)))
+tells = fold_related (Value → Bool) Tells (λ x v. same_form x (out-Value v)) (λ y. (
+  (λ w h. ap roll-Value (forms_equal y (out-Value w) h) ∙ roll-out-Value w),
+  rw (out-roll-Value (parts y)) (forms_told y),
+))
 
 pub same_equal : (v w : Value) → same_value v w ≡ true → v ≡ w
 same_equal v w = (tells v).0 w

@@ -1,5 +1,6 @@
 -- The look-up after a cell has got another value.
-use Rattle.std.proofs.Common.{◌≡◌, Bool, true, false, List, [], ◌∷◌, Some, None, slice_get, refl, sym, ap, ◌∙◌, if◌then◌else◌}
+use Rattle.std.proofs.Common.{◌≡◌, Bool, true, false, List, [], ◌∷◌, Some, None, slice_get, refl, sym, ap, ◌∙◌}
+use Rattle.std.proofs.Common.{if◌then◌else◌}
 use Rattle.std.proofs.lemmas.Bool.{false_from_ne_true}
 use Rattle.cm_value.specs.declared.value.Value.{Value}
 use Rattle.cm_eval.specs.declared.log.CellName.{CellName}
@@ -17,7 +18,8 @@ module _ (c : CellName) (v : Value) where
       by true is later = ap (λ b. if b then Some v else exception_of es c) is
       by false is later = ap (λ b. if b then Some e.value else exception_of (exceptions_with es c v) c) is ∙ later
 
-  pub exception_elsewhere : (d : CellName) → same_cell c d ≡ false → (es : List Except) → exception_of (exceptions_with es c v) d ≡ exception_of es d
+  pub exception_elsewhere : (d : CellName) → same_cell c d ≡ false → (es : List Except)
+      → exception_of (exceptions_with es c v) d ≡ exception_of es d
   exception_elsewhere d apart [] = ap (λ b. if b then Some v else None) apart
   exception_elsewhere d apart (e ∷ es) = by (same_cell e.cell c) refl (exception_elsewhere d apart es)
     where
@@ -25,9 +27,11 @@ module _ (c : CellName) (v : Value) where
       other is = ap (λ x. same_cell x d) (same_cell_equal e.cell c is) ∙ apart
 
       by : (b : Bool) → same_cell e.cell c ≡ b → exception_of (exceptions_with es c v) d ≡ exception_of es d
-          → exception_of (if b then record e { value = v } ∷ es else e ∷ exceptions_with es c v) d ≡ exception_of (e ∷ es) d
+          → exception_of (if b then record e { value = v } ∷ es else e ∷ exceptions_with es c v) d
+          ≡ exception_of (e ∷ es) d
       by true is later =
-          ap (λ b. if b then Some v else exception_of es d) (other is) ∙ sym (ap (λ b. if b then Some e.value else exception_of es d) (other is))
+          ap (λ b. if b then Some v else exception_of es d) (other is)
+          ∙ sym (ap (λ b. if b then Some e.value else exception_of es d) (other is))
       by false is later = ap (λ o. if same_cell e.cell d then Some e.value else o) later
 
 -- the cell has the value

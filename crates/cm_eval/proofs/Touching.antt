@@ -1,5 +1,6 @@
 -- What a touch makes of a read and of a write, and an invariant's run beside what is asked of it.
-use Rattle.std.proofs.Common.{◌≡◌, ℕ, zero, suc, Bool, true, false, List, [], ◌∷◌, ◌++◌, map, Option, Some, None, IsTrue, ◌↔◌, slice_get, refl, sym, ap, ◌∙◌, if◌then◌else◌}
+use Rattle.std.proofs.Common.{◌≡◌, ℕ, zero, suc, Bool, true, false, List, [], ◌∷◌, ◌++◌, map, Option, Some, None}
+use Rattle.std.proofs.Common.{IsTrue, ◌↔◌, slice_get, refl, sym, ap, ◌∙◌, if◌then◌else◌}
 use Rattle.cm_model.specs.Tables.{Tables}
 use Rattle.cm_model.specs.declared.ty.IntDecl.{IntDecl}
 use Rattle.cm_model.specs.declared.body.Expr.{Expr}
@@ -13,7 +14,8 @@ use Rattle.cm_eval.specs.declared.log.Log.{Log}
 use Rattle.cm_eval.specs.Script.{Replies, Blocks, Decides, Reads, Writes}
 use Rattle.cm_eval.specs.State.{Store, Touched, store, look_up, put, marked}
 use Rattle.cm_eval.specs.Evaluation.{Doing, invariant_of}
-use Rattle.cm_eval.specs.Run.{Trace, Replied, End, Ended, Stopped, logged, run, touched_at, touched_with, asked, checked}
+use Rattle.cm_eval.specs.Run.{Trace, Replied, End, Ended, Stopped, logged, run, touched_at, touched_with, asked}
+use Rattle.cm_eval.specs.Run.{checked}
 use Rattle.cm_eval.specs.Invariant.{MeetsInvariant, invariant_holds, declared_invariant, replies}
 use Rattle.cm_eval.specs.Ended.{touched_of, stopped}
 use Rattle.cm_eval.specs.Compiled.{IsCodeOf, invariant_code_of}
@@ -25,7 +27,8 @@ pub record Declared (t : Tables) (i : ℕ) (code : Option (List Instr)) : Type 0
   pub there : slice_get t.states i ≡ Some state
   pub coded : code ≡ invariant_code_of t.ints state.inv
 
-pub declared_of : (t : Tables) (c : Code) (i : ℕ) (code : Option (List Instr)) → IsCodeOf t c → slice_get c.invariants i ≡ Some code → Declared t i code
+pub declared_of : (t : Tables) (c : Code) (i : ℕ) (code : Option (List Instr)) → IsCodeOf t c
+    → slice_get c.invariants i ≡ Some code → Declared t i code
 declared_of t c i code is got =
     let d = here t.states i (sym (ap (λ l. slice_get l i) is.invariants) ∙ got) in
     record { state = d.0; there = d.1; coded = d.2 }
@@ -47,25 +50,29 @@ module _ (t : Tables) (c : CellName) (e : Option (List Instr)) (v : Value) (s : 
   pub read_gives : (i : ℕ) → o ≡ Some i → Gives t (Reads c) (Some v) s l after
   read_gives i is = record {
     on = λ k.
-        reached (λ w j u. run t.ints t.states s u (k w)) ∙ ap (λ q. ended_by q (λ j. goes_on t s after (k v)) (stopped after)) is;
+        reached (λ w j u. run t.ints t.states s u (k w))
+        ∙ ap (λ q. ended_by q (λ j. goes_on t s after (k v)) (stopped after)) is;
   }
 
   pub read_halts : o ≡ None → Gives t (Reads c) None s l after
   read_halts is = record {
     on = λ k.
-        reached (λ w j u. run t.ints t.states s u (k w)) ∙ ap (λ q. ended_by q (λ j. goes_on t s after (k v)) (stopped after)) is;
+        reached (λ w j u. run t.ints t.states s u (k w))
+        ∙ ap (λ q. ended_by q (λ j. goes_on t s after (k v)) (stopped after)) is;
   }
 
   pub write_halts : (x : Value) → o ≡ None → (doing : Doing) → goes_on t s l (Writes c x doing) ≡ stopped after
   write_halts x is doing =
       reached (λ w j u. run t.ints t.states (put s c x) (marked u j) doing)
-      ∙ ap (λ q. ended_by q (λ j. logged after.steps (run t.ints t.states (put s c x) (marked (touched_of after) j) doing)) (stopped after)) is
+      ∙ ap (λ q. ended_by q (λ j. logged after.steps (run t.ints t.states (put s c x) (marked (touched_of after) j)
+      doing)) (stopped after)) is
 
   pub write_goes : (x : Value) (i : ℕ) → o ≡ Some i → (doing : Doing) → goes_on t s l (Writes c x doing)
       ≡ logged after.steps (run t.ints t.states (put s c x) (marked (touched_of after) i) doing)
   write_goes x i is doing =
       reached (λ w j u. run t.ints t.states (put s c x) (marked u j) doing)
-      ∙ ap (λ q. ended_by q (λ j. logged after.steps (run t.ints t.states (put s c x) (marked (touched_of after) j) doing)) (stopped after)) is
+      ∙ ap (λ q. ended_by q (λ j. logged after.steps (run t.ints t.states (put s c x) (marked (touched_of after) j)
+      doing)) (stopped after)) is
 
 -- how a run ends that is asked of an invariant
 abbrev after_end : Touched → Trace → End → End
@@ -81,7 +88,8 @@ asked_end ints s t (Reads c k) more log = refl
 asked_end ints s t (Writes c v k) more log = refl
 
 -- what is asked of a cell that is new, by the run of its invariant
-pub asks_ran : (ints : List IntDecl) (e : Expr) (v : Value) (b : Bool) (l : Log) (after : List ℕ) → InvariantRan ints e v b l.steps after
+pub asks_ran : (ints : List IntDecl) (e : Expr) (v : Value) (b : Bool) (l : Log) (after : List ℕ)
+    → InvariantRan ints e v b l.steps after
     → Asks ints (Some e) v b l (record l { steps = after })
 asks_ran ints e v b l after ran = (
   refl,
@@ -92,12 +100,14 @@ asks_ran ints e v b l after ran = (
 )
   where
     chosen : (w : Value) (more : Trace) (b : Bool)
-        → after_end (touched_of l) more (if b then Ended w (store [] []) (touched_of l) after else Stopped (touched_of l) after)
+        → after_end (touched_of l) more (if b then Ended w (store [] []) (touched_of l) after else Stopped
+        (touched_of l) after)
         ≡ (if b then logged after more else Stopped (touched_of l) after)
     chosen w more true = refl
     chosen w more false = refl
 
-pub asks_coded : (ints : List IntDecl) (e : Option Expr) (code : List Instr) (v : Value) (b : Bool) (l : Log) (after : List ℕ)
+pub asks_coded : (ints : List IntDecl) (e : Option Expr) (code : List Instr) (v : Value) (b : Bool) (l : Log)
+    (after : List ℕ)
     → Some code ≡ invariant_code_of ints e
     → ((ints : List IntDecl) (e : Expr) → code ≡ invariant_code ints e → InvariantRan ints e v b l.steps after)
     → Asks ints e v b l (record l { steps = after })
@@ -108,7 +118,8 @@ abbrev is_ended : End → Bool
 is_ended (Ended v s t log) = true
 is_ended (Stopped t log) = false
 
-asked_says : (v : Value) (s : Store) (t : Touched) (d : Doing) (log : List ℕ) → is_ended (logged log (asked t d (Replied v s t))) ≡ replies d
+asked_says : (v : Value) (s : Store) (t : Touched) (d : Doing) (log : List ℕ)
+    → is_ended (logged log (asked t d (Replied v s t))) ≡ replies d
 asked_says v s t (Replies w) log = refl
 asked_says v s t Blocks log = refl
 asked_says v s t (Decides d k) log = asked_says v s t (k d) (log ++ d ∷ [])
@@ -120,11 +131,14 @@ checked_says : (ints : List IntDecl) (inv : Option Expr) (v : Value) (s : Store)
 checked_says ints None v s t log = refl
 checked_says ints (Some e) v s t log = asked_says v s t (invariant_of ints e v) log
 
-ask_says : (ints : List IntDecl) (inv : Option Expr) (v : Value) (b : Bool) (l after : Log) → Asks ints inv v b l after → b ≡ invariant_holds ints inv v
+ask_says : (ints : List IntDecl) (inv : Option Expr) (v : Value) (b : Bool) (l after : Log) → Asks ints inv v b l after
+    → b ≡ invariant_holds ints inv v
 ask_says ints inv v b l after h =
-    sym (chosen b) ∙ sym (ap is_ended (h.1 (Replied v (store [] []) (touched_of l)))) ∙ checked_says ints inv v (store [] []) (touched_of l) l.steps
+    sym (chosen b) ∙ sym (ap is_ended (h.1 (Replied v (store [] []) (touched_of l))))
+    ∙ checked_says ints inv v (store [] []) (touched_of l) l.steps
   where
-    chosen : (q : Bool) → is_ended (if q then logged after.steps (Replied v (store [] []) (touched_of l)) else stopped after) ≡ q
+    chosen : (q : Bool) → is_ended (if q then logged after.steps (Replied v (store [] []) (touched_of l))
+        else stopped after) ≡ q
     chosen true = refl
     chosen false = refl
 

@@ -1,6 +1,7 @@
 -- The comparison of two values by their form, decision by decision. What is done at a decision, and where
 -- the values are of no one type, is the reader's.
-use Rattle.std.specs.Prelude.{ℕ, ◌==◌, ltb, ℤ, int_lt, Bool, true, false, List, [], ◌∷◌, Option, Some, None, if◌then◌else◌}
+use Rattle.std.specs.Prelude.{ℕ, ◌==◌, ltb, ℤ, int_lt, Bool, true, false, List, [], ◌∷◌, Option, Some, None}
+use Rattle.std.specs.Prelude.{if◌then◌else◌}
 use Rattle.cm_model.specs.Limits.{variant_limit}
 use Rattle.cm_value.specs.declared.value.Value.{Value, out-Value}
 use Rattle.cm_value.specs.declared.value.Value.TheOpen.{Value-F}
@@ -81,8 +82,10 @@ payload_compared X m (Some v) k = m v k
 payload_compared X m None k = k false
 
 abbrev pub comparison_step : (X : Type 0) → X → (ℕ → (ℕ → X) → X) → Value-F (Comparing X) → Comparing X
-comparison_step X stop decide (Value-F.Elem m) y k = or_stop stop (elem_of y) (λ n. decide (distinguished m n) (λ d. k (d == 0)))
-comparison_step X stop decide (Value-F.Int m) y k = or_stop stop (int_of y) (λ n. decide (ordered m n) (λ d. k (d == 1)))
+comparison_step X stop decide (Value-F.Elem m) y k = or_stop stop (elem_of y)
+    (λ n. decide (distinguished m n) (λ d. k (d == 0)))
+comparison_step X stop decide (Value-F.Int m) y k = or_stop stop (int_of y) (λ n. decide (ordered m n)
+    (λ d. k (d == 1)))
 comparison_step X stop decide (Value-F.Tag m) y k =
     or_stop stop (variant m) (λ l. or_stop stop (tag_of y) (λ r. decide l (λ d. decide r (λ e. k (d == e)))))
 comparison_step X stop decide (Value-F.Rec ms) y k = or_stop stop (parts_of y) (λ vs. fields_compared X stop ms vs k)

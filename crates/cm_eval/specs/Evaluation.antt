@@ -1,5 +1,6 @@
 -- What expressions, statements, functions and calls do: one rule for each form, operands from left to right.
-use Rattle.std.specs.Prelude.{ℕ, ◌==◌, ltb, ℤ, ◌+ℤ◌, int_lt, Bool, true, false, not, List, [], ◌∷◌, ◌++◌, map, slice_get, slice_set, length, Option, Some, None, if◌then◌else◌}
+use Rattle.std.specs.Prelude.{ℕ, ◌==◌, ltb, ℤ, ◌+ℤ◌, int_lt, Bool, true, false, not, List, [], ◌∷◌, ◌++◌, map}
+use Rattle.std.specs.Prelude.{slice_get, slice_set, length, Option, Some, None, if◌then◌else◌}
 use Rattle.cm_model.specs.Tables.{Tables}
 use Rattle.cm_model.specs.declared.ty.IntDecl.{IntDecl}
 use Rattle.cm_model.specs.declared.body.Op.{Op}
@@ -268,9 +269,11 @@ return_of m locals ret next = valued m locals ret
 
 abbrev pub turn_step : List IntDecl → List Called → Stmt-F Turn → Turn
 turn_step ints funs (Stmt-F.Let e) locals ret next = let_of (meaning_of ints funs e) locals ret next
-turn_step ints funs (Stmt-F.Set s key e) locals ret next = set_of s (key_meaning ints funs key) (meaning_of ints funs e) locals ret next
+turn_step ints funs (Stmt-F.Set s key e) locals ret next = set_of s (key_meaning ints funs key) (meaning_of ints funs e)
+    locals ret next
 turn_step ints funs (Stmt-F.If c left right) locals ret next = if_of (meaning_of ints funs c) left right locals ret next
-turn_step ints funs (Stmt-F.Case e left right) locals ret next = case_of (meaning_of ints funs e) left right locals ret next
+turn_step ints funs (Stmt-F.Case e left right) locals ret next = case_of (meaning_of ints funs e) left
+    right locals ret next
 turn_step ints funs (Stmt-F.Assume c) locals ret next = assume_of (meaning_of ints funs c) locals ret next
 turn_step ints funs (Stmt-F.Return e) locals ret next = return_of (meaning_of ints funs e) locals ret next
 

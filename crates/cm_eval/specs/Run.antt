@@ -1,5 +1,6 @@
 -- How a script runs on a state, and what it logs.
-use Rattle.std.specs.Prelude.{ℕ, ◌+◌, ◌==◌, Bool, true, false, List, [], ◌∷◌, ◌++◌, length, slice_get, Option, Some, None, if◌then◌else◌}
+use Rattle.std.specs.Prelude.{ℕ, ◌+◌, ◌==◌, Bool, true, false, List, [], ◌∷◌, ◌++◌, length, slice_get, Option, Some}
+use Rattle.std.specs.Prelude.{None, if◌then◌else◌}
 use Rattle.cm_model.specs.Tables.{Tables}
 use Rattle.cm_model.specs.declared.ty.IntDecl.{IntDecl}
 use Rattle.cm_model.specs.declared.body.Expr.{Expr}
@@ -44,20 +45,23 @@ cells_compared c d t k = if c.state == d.state then keys_compared c.key d.key t 
 -- what is done with the number of that one, and where none is
 abbrev pub touch_of : List CellName → ℕ → CellName → Touched → (ℕ → Trace) → Trace → Trace
 touch_of [] i c t found fresh = fresh
-touch_of (d ∷ ds) i c t found fresh = cells_compared c d t (λ s. if s then found i else touch_of ds (i + 1) c t found fresh)
+touch_of (d ∷ ds) i c t found fresh = cells_compared c d t (λ s. if s then found i else touch_of ds (i + 1)
+    c t found fresh)
 
 -- a cell that is new comes last, and its invariant is asked
 abbrev pub added : List IntDecl → Option Expr → Value → CellName → Touched → (ℕ → Touched → Trace) → Trace
 added ints inv v c t k = checked ints inv v (with_cell t c) (k (length t.cells) (with_cell t c))
 
 -- the state's declaration and the cell's value, where they are there
-abbrev pub touched_with : List IntDecl → Option StateDecl → Option Value → CellName → Touched → (Value → ℕ → Touched → Trace) → Trace
+abbrev pub touched_with : List IntDecl → Option StateDecl → Option Value → CellName → Touched
+    → (Value → ℕ → Touched → Trace) → Trace
 touched_with ints (Some d) (Some v) c t k = touch_of t.cells 0 c t (λ i. k v i t) (added ints d.inv v c t (k v))
 touched_with ints (Some d) None c t k = Blocked t
 touched_with ints None v c t k = Blocked t
 
 -- a touch of a cell; what is done with the cell's value, its number among the touched, and these
-abbrev pub touched_at : List IntDecl → List StateDecl → Store → CellName → Touched → (Value → ℕ → Touched → Trace) → Trace
+abbrev pub touched_at : List IntDecl → List StateDecl → Store → CellName → Touched → (Value → ℕ → Touched → Trace)
+    → Trace
 touched_at ints states s c = touched_with ints (slice_get states c.state) (look_up s c) c
 
 abbrev pub run : List IntDecl → List StateDecl → Store → Touched → Doing → Trace
@@ -65,7 +69,8 @@ run ints states s t (Replies v) = Replied v s t
 run ints states s t Blocks = Blocked t
 run ints states s t (Decides d k) = Logs t d (run ints states s t (k d))
 run ints states s t (Reads c k) = touched_at ints states s c t (λ v i after. run ints states s after (k v))
-run ints states s t (Writes c x k) = touched_at ints states s c t (λ v i after. run ints states (put s c x) (marked after i) k)
+run ints states s t (Writes c x k) = touched_at ints states s c t (λ v i after. run ints states (put s c x)
+    (marked after i) k)
 
 -- how a run ended, with the cells touched and the decisions
 pub data End : Type 0 where

@@ -11,4 +11,5 @@ abbrev pub coded_parts : Coded (List Value × List Except)
 coded_parts = coded× (coded_list value.the_row.coded) (coded_list except.the_row.coded)
 
 abbrev pub store_code : Coded Store
-store_code = code_by (List Value × List Except) coded_parts (λ s. (s.defaults, s.exceptions)) (λ p. record { defaults = p.0; exceptions = p.1 }) (λ _. refl)
+store_code = code_by (List Value × List Except) coded_parts (λ s. (s.defaults, s.exceptions))
+    (λ p. record { defaults = p.0; exceptions = p.1 }) (λ _. refl)

@@ -7,7 +7,8 @@ use Rattle.cm_eval.specs.declared.operand.Operand.{Operand}
 use Rattle.cm_eval.specs.declared.operand.Operand.TheVariants as operand
 use Rattle.cm_eval.specs.Script.{Replies, Blocks, Decides, Reads, Writes, given}
 use Rattle.cm_eval.specs.Comparison.{parts_of, option_of}
-use Rattle.cm_eval.specs.Evaluation.{Doing, value_of, number_of, bool, inspects, orders, compares, named, field_in, with_field, opens}
+use Rattle.cm_eval.specs.Evaluation.{Doing, value_of, number_of, bool, inspects, orders, compares, named, field_in}
+use Rattle.cm_eval.specs.Evaluation.{with_field, opens}
 
 abbrev pub summed : Option ℤ → ℤ → Option Operand
 summed (Some n) by = Some (operand.Number (n +ℤ by))

@@ -67,7 +67,8 @@ fn compare_values(
     right: &Value,
     steps: &mut List<u8>,
 ) -> Result<Option<bool>, NoMemory>
-    ensures decided { IfOk result (λ r. Decided (comparison Doing Blocks Decides left.now right.now) r steps.old steps.new) }
+    ensures decided { IfOk result (λ r. Decided (comparison Doing Blocks Decides left.now right.now)
+        r steps.old steps.new) }
 {
     let r = compare(left, right, steps)?;
     Ok(r)

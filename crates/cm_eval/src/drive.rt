@@ -269,7 +269,8 @@ fn write_on(
 ) -> Result<Turned, NoMemory>
     ensures means { IfOk result (λ r. (t : Tables) (codes : List (List Instr)) → IsCodeOf t code.now →
         TurnsIn t
-        (event_of Value Operand Doing values codes (event.Writes written.cell.state written.cell.key written.value) m.now) r
+        (event_of Value Operand Doing values codes (event.Writes written.cell.state written.cell.key written.value)
+        m.now) r
         (script Value Operand Doing values codes m.now) state.old log.old state.new log.new) }
 {
     if write(alloc, code, written.cell, written.value, state, log)? {

@@ -1,6 +1,7 @@
 //! States: defaults and exceptions.
 
-ghost use Rattle.std.specs.Prelude.{◌≡◌, ◌<◌, ◌≤◌, ℕ, length, slice_get, Some, IfOk, IfSome, OnOk, OnErr, IsTrue, option_copied, MatchOption, drop, List};
+ghost use Rattle.std.specs.Prelude.{◌≡◌, ◌<◌, ◌≤◌, ℕ, length, slice_get, Some, IfOk, IfSome, OnOk, OnErr, IsTrue};
+ghost use Rattle.std.specs.Prelude.{option_copied, MatchOption, drop, List};
 ghost use Rattle.cm_value.specs.declared.value.Value.{Value};
 ghost use Rattle.cm_eval.specs.Evaluation.{named};
 ghost use Rattle.cm_eval.specs.State.{Store, look_up, put, least_store, same_cell, same_value, exception_of};

@@ -1,5 +1,6 @@
 -- A shelf in memory: what it holds, what a fetch answers, and its counts of faults.
-use Rattle.std.specs.Prelude.{◌≡◌, ℕ, ◌+◌, ◌-◌, ◌^◌, ◌==◌, min, zero, suc, List, length, drop, Bool, true, None, is_some, if◌then◌else◌}
+use Rattle.std.specs.Prelude.{◌≡◌, ℕ, ◌+◌, ◌-◌, ◌^◌, ◌==◌, min, zero, suc, List, length, drop, Bool, true, None}
+use Rattle.std.specs.Prelude.{is_some, if◌then◌else◌}
 use Rattle.std.specs.declared.option.Option.{Option}
 use Rattle.std.specs.List.{find, list_any}
 use Rattle.std.specs.Option.{option_map}
@@ -35,8 +36,8 @@ abbrev pub faults_of : ShelfState → List ℕ → ℕ
 faults_of s name =
     min (named_among s.fails s.calls + (if is_some (bytes_of s.files name) then 0 else s.missing)) (2 ^ 64 - 1)
 
--- how many bytes a fetch gives into a buffer with this room: all from the place on, or as many as it gives at once or as
--- have room; nothing where the call is made to fail or there is no such file
+-- how many bytes a fetch gives into a buffer with this room: all from the place on, or as many as it gives at once
+-- or as have room; nothing where the call is made to fail or there is no such file
 abbrev pub given_of : ShelfState → List ℕ → ℕ → ℕ → Option ℕ
 given_of s name from room =
     if is_named s.fails (s.calls + 1) then None
@@ -45,7 +46,11 @@ given_of s name from room =
 -- the shelf after a fetch of this name
 abbrev pub after_fetch : ShelfState → List ℕ → ShelfState
 after_fetch s name =
-    record s { calls = one_more s.calls; missing = if is_some (bytes_of s.files name) then s.missing else one_more s.missing }
+    record s {
+      calls = one_more s.calls;
+      missing = if is_some (bytes_of s.files name) then s.missing
+          else one_more s.missing;
+    }
 
 -- the count of each name that it holds is 0
 abbrev pub IsQuiet : ShelfState → Type 0

@@ -1,6 +1,7 @@
 //! A shelf in memory.
 
-ghost use Rattle.std.specs.Prelude.{◌≡◌, ◌≢◌, ◌↔◌, ◌==◌, ◌+◌, ◌-◌, ◌^◌, ◌<◌, ◌≤◌, ℕ, List, [], Some, length, drop, min, IsTrue, IsSome, IsOk, IfOk, OnErr};
+ghost use Rattle.std.specs.Prelude.{◌≡◌, ◌≢◌, ◌↔◌, ◌==◌, ◌+◌, ◌-◌, ◌^◌, ◌<◌, ◌≤◌, ℕ, List, [], Some, length, drop, min};
+ghost use Rattle.std.specs.Prelude.{IsTrue, IsSome, IsOk, IfOk, OnErr};
 ghost use Rattle.std.specs.List.{AllPairs, Any};
 ghost use Rattle.std.specs.Option.{option_map};
 ghost use Rattle.std.specs.Result.{result_ok};
@@ -123,7 +124,8 @@ impl Shelf for MemShelf {
     fn fetch(&mut self, name: &str, from: u64, buf: &mut [u8]) -> Result<usize, Failed>
         ensures bound { IfOk result (λ n. n ≤ length buf.new) }
         ensures bytes { Fetches (Some (bytes_of self.old.files name.now)) from result buf.new }
-        ensures same { SameFiles (λ file. Some (bytes_of self.old.files file)) (λ file. Some (bytes_of self.new.files file)) }
+        ensures same { SameFiles (λ file. Some (bytes_of self.old.files file))
+            (λ file. Some (bytes_of self.new.files file)) }
         ensures later { NoneFalls (faults_of self.old) (faults_of self.new) }
         ensures cause { OnErr result (Rose (faults_of self.old name.now) (faults_of self.new name.now)) }
 

@@ -1,5 +1,6 @@
 -- The same records, as one after another is put into a new table.
-use Rattle.std.proofs.Common.{arith, ◌≡◌, ◌≢◌, ◌%◌, ◌⊎◌, ℕ, ◌+◌, ◌<◌, List, [], ◌∷◌, ◌++◌, length, take, get_or, sym, subst, inl, inr}
+use Rattle.std.proofs.Common.{arith, ◌≡◌, ◌≢◌, ◌%◌, ◌⊎◌, ℕ, ◌+◌, ◌<◌, List, [], ◌∷◌, ◌++◌, length, take, get_or, sym}
+use Rattle.std.proofs.Common.{subst, inl, inr}
 use Rattle.std.specs.List.{Contains}
 use Rattle.std.proofs.Math.ListN.{set, length-set}
 use Rattle.std.proofs.lemmas.List.{take_more, get_or-set_same}

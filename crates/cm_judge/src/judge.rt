@@ -1,6 +1,7 @@
 //! The judge of a section.
 
-ghost use Rattle.std.specs.Prelude.{◌≡◌, ◌≢◌, ◌↔◌, [], ◌∷◌, ◌++◌, List, ℕ, ◌+◌, ◌*◌, ◌%◌, ◌<◌, ◌≤◌, All, IsTrue, false, IfOk, OnOk, OnErr, vec_len, vec_capacity};
+ghost use Rattle.std.specs.Prelude.{◌≡◌, ◌≢◌, ◌↔◌, [], ◌∷◌, ◌++◌, List, ℕ, ◌+◌, ◌*◌, ◌%◌, ◌<◌, ◌≤◌, All, IsTrue, false};
+ghost use Rattle.std.specs.Prelude.{IfOk, OnOk, OnErr, vec_len, vec_capacity};
 ghost use Rattle.cm_mtrace.specs.Lines.{IsInRange};
 ghost use Rattle.cm_mtrace.specs.declared.item.Entry.{Entry};
 ghost use Rattle.cm_mtrace.specs.declared.item.Who.TheVariants.{Other};

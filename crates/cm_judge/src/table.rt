@@ -1,6 +1,7 @@
 //! A hash table of the lines of a section.
 
-ghost use Rattle.std.specs.Prelude.{◌≡◌, ◌≢◌, ◌+◌, ◌≤◌, ◌<◌, ◌%◌, [], ◌∷◌, ◌++◌, List, All, IsTrue, true, false, IfOk, OnOk, OnErr, slice_set, vec_len, vec_capacity};
+ghost use Rattle.std.specs.Prelude.{◌≡◌, ◌≢◌, ◌+◌, ◌≤◌, ◌<◌, ◌%◌, [], ◌∷◌, ◌++◌, List, All, IsTrue, true, false, IfOk};
+ghost use Rattle.std.specs.Prelude.{OnOk, OnErr, slice_set, vec_len, vec_capacity};
 ghost use Rattle.cm_mtrace.specs.Lines.{Covers};
 ghost use Rattle.cm_mtrace.specs.declared.item.Entry.{Entry};
 ghost use Rattle.cm_mtrace.specs.declared.item.Who.TheVariants.{Other};

@@ -1,7 +1,8 @@
 -- Parts of an expression that has a kind have kinds.
 use Rattle.std.proofs.Common.{◌≡◌, Bool, true, false, ◌&&◌, ◌||◌, Option, Some, None, is_some, refl, ap}
 use Rattle.std.proofs.lemmas.Bool.{and_parts}
-use Rattle.cm_model.specs.Kinds.{Kind, Number, Of, given, if_so, is_bool, is_integer, is_of, type_of, is_key, same_type, are_comparable}
+use Rattle.cm_model.specs.Kinds.{Kind, Number, Of, given, if_so, is_bool, is_integer, is_of, type_of, is_key, same_type}
+use Rattle.cm_model.specs.Kinds.{are_comparable}
 use Rattle.cm_model.specs.declared.ty.Ty.{Ty}
 use Rattle.cm_model.specs.declared.body.Op.{Op}
 use Rattle.cm_model.specs.declared.body.Op.TheVariants as op
@@ -11,7 +12,8 @@ pub passed : {X : Type 0} (b : Bool) (x : X) → is_some (if_so b x) ≡ true �
 passed true x h = refl
 passed false x h = absurd (cc)
 
-pub came : {X Y : Type 0} (o : Option X) (k : X → Option Y) → is_some (given o k) ≡ true → (x : X) × (o ≡ Some x) × (is_some (k x) ≡ true)
+pub came : {X Y : Type 0} (o : Option X) (k : X → Option Y) → is_some (given o k) ≡ true → (x : X) × (o ≡ Some x)
+    × (is_some (k x) ≡ true)
 came (Some x) k h = (x, refl, h)
 came None k h = absurd (cc)
 
@@ -20,7 +22,8 @@ pub chosen : {X : Type 0} (b : Bool) (x y : X) → if_so b x ≡ Some y → (b �
 chosen true x y h = (refl, cc)
 chosen false x y h = absurd (cc)
 
-pub given_some : {X Y : Type 0} (o : Option X) (k : X → Option Y) (y : Y) → given o k ≡ Some y → (x : X) × (o ≡ Some x) × (k x ≡ Some y)
+pub given_some : {X Y : Type 0} (o : Option X) (k : X → Option Y) (y : Y) → given o k ≡ Some y
+    → (x : X) × (o ≡ Some x) × (k x ≡ Some y)
 given_some (Some x) k y h = (x, refl, h)
 given_some None k y h = absurd (cc)
 
@@ -33,7 +36,8 @@ typed_kind (Some Number) u h = absurd (cc)
 typed_kind None u h = absurd (cc)
 
 -- parts of an expression with a kind have one
-pub typed_part : {Y : Type 0} (k : Option Kind) (f : Ty → Option Y) → is_some (given (type_of k) f) ≡ true → is_some k ≡ true
+pub typed_part : {Y : Type 0} (k : Option Kind) (f : Ty → Option Y) → is_some (given (type_of k) f) ≡ true
+    → is_some k ≡ true
 typed_part (Some k) f h = refl
 typed_part None f h = absurd (cc)
 
@@ -67,7 +71,8 @@ values None None h = absurd (cc)
 values (Some (Of t)) None h = absurd (cc)
 values (Some Number) None h = absurd (cc)
 
-alike : (b : Bool) (j k : Option Kind) → (b ≡ true → Both j k) → (b || same_type (type_of j) (type_of k)) ≡ true → Both j k
+alike : (b : Bool) (j k : Option Kind) → (b ≡ true → Both j k) → (b || same_type (type_of j) (type_of k)) ≡ true
+    → Both j k
 alike true j k numbers h = numbers refl
 alike false j k numbers h = values j k h
 

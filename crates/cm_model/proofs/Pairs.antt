@@ -1,5 +1,6 @@
 -- A pair by its number.
-use Rattle.std.proofs.Common.{◌≡◌, ℕ, zero, suc, ◌+◌, ◌-◌, ◌*◌, ◌/◌, ◌<◌, ◌≤◌, List, [], ◌∷◌, ◌++◌, slice_get, Option, Some, refl, sym, ap, ◌∙◌, subst, arith}
+use Rattle.std.proofs.Common.{◌≡◌, ℕ, zero, suc, ◌+◌, ◌-◌, ◌*◌, ◌/◌, ◌<◌, ◌≤◌, List, [], ◌∷◌, ◌++◌, slice_get, Option}
+use Rattle.std.proofs.Common.{Some, refl, sym, ap, ◌∙◌, subst, arith}
 use Rattle.std.proofs.Math.Nat.{mul-div_right}
 use Rattle.cm_model.specs.Pairs.{row, pairs_from, pairs_of}
 
@@ -28,9 +29,11 @@ pub pair_here : (i m k : ℕ) → k < m → slice_get (pairs_from i m) k ≡ Som
 pair_here i zero k lt = absurd (omega arith)
 pair_here i (suc m) k lt = in_row i i (suc m) k (pairs_from (i + 1) m) lt
 
-pub pair_later : (i m n k l : ℕ) → m ≡ suc n → k ≡ m + l → slice_get (pairs_from i m) k ≡ slice_get (pairs_from (i + 1) n) l
+pub pair_later : (i m n k l : ℕ) → m ≡ suc n → k ≡ m + l → slice_get (pairs_from i m) k ≡ slice_get
+    (pairs_from (i + 1) n) l
 pair_later i zero n k l e f = absurd (omega (arith, e))
-pair_later i (suc m) n k l e f = past_row i i (suc m) k l (pairs_from (i + 1) m) f ∙ ap (λ x. slice_get (pairs_from (i + 1) x) l) (omega (arith, e))
+pair_later i (suc m) n k l e f = past_row i i (suc m) k l (pairs_from (i + 1) m) f
+    ∙ ap (λ x. slice_get (pairs_from (i + 1) x) l) (omega (arith, e))
 
 pub triangle_left : (m n k l : ℕ) → m ≡ suc n → k ≡ m + l → k < triangle m → l < triangle n
 triangle_left zero n k l e f lt = absurd (omega (arith, e))
@@ -51,7 +54,8 @@ begins n k lt =
     let counted : k < triangle n = subst (λ x. k < x) (count_of n) lt in
     (ap (λ m. slice_get (pairs_from 0 m) k) (sym e), subst (λ m. k < triangle m) e counted, omega arith)
 
-pub goes_on : (a n left m : ℕ) (pair : Option (ℕ × ℕ)) → m ≡ n - a → m ≤ left → Stands a n pair left → Stands (a + 1) n pair (left - m)
+pub goes_on : (a n left m : ℕ) (pair : Option (ℕ × ℕ)) → m ≡ n - a → m ≤ left → Stands a n pair left
+    → Stands (a + 1) n pair (left - m)
 goes_on a n left m pair e le h =
     let some : 0 < n - a = triangle_some (n - a) left h.1 in
     let next : n - a ≡ suc (n - (a + 1)) = omega (arith, some) in
@@ -61,5 +65,6 @@ goes_on a n left m pair e le h =
       omega (arith, some),
     )
 
-pub ends : (a n left m : ℕ) (pair : Option (ℕ × ℕ)) → m ≡ n - a → left < m → Stands a n pair left → pair ≡ Some (a, a + left)
+pub ends : (a n left m : ℕ) (pair : Option (ℕ × ℕ)) → m ≡ n - a → left < m → Stands a n pair left
+    → pair ≡ Some (a, a + left)
 ends a n left m pair e lt h = sym h.0 ∙ pair_here a (n - a) left (omega (arith, e))

@@ -1,5 +1,6 @@
 -- When statements are well typed, and when a block always returns.
-use Rattle.std.specs.Prelude.{ℕ, Bool, true, false, not, ◌&&◌, if◌then◌else◌, List, [], ◌∷◌, ◌++◌, map, slice_get, Option, Some, None, is_some}
+use Rattle.std.specs.Prelude.{ℕ, Bool, true, false, not, ◌&&◌, if◌then◌else◌, List, [], ◌∷◌, ◌++◌, map, slice_get}
+use Rattle.std.specs.Prelude.{Option, Some, None, is_some}
 use Rattle.cm_model.specs.Types.{same_ty}
 use Rattle.cm_model.specs.Kinds.{Kind, Scope, scope, given, if_so, is_of, is_bool, is_key, type_of, payload_of, kind_of}
 use Rattle.cm_model.specs.declared.ty.Ty.{Ty}
@@ -25,9 +26,11 @@ abbrev pub stmt_step : Tables → ℕ → Ty → Stmt-F Typing → Typing
 stmt_step t funs reply (Stmt-F.Let e) locals =
     let s = scope t funs locals in given (type_of (kind_of s e)) (λ u. Some (locals ++ u ∷ []))
 stmt_step t funs reply (Stmt-F.Set state key e) locals =
-    let s = scope t funs locals in given (slice_get t.states state) (λ d. if_so (is_key d.key (key_kind s key) && is_of d.value (kind_of s e)) locals)
+    let s = scope t funs locals in given (slice_get t.states state) (λ d. if_so (is_key d.key (key_kind s key)
+    && is_of d.value (kind_of s e)) locals)
 stmt_step t funs reply (Stmt-F.If c left right) locals =
-    let s = scope t funs locals in if_so (is_bool (kind_of s c) && (is_some (block_typing left locals) && is_some (block_typing right locals))) locals
+    let s = scope t funs locals in if_so (is_bool (kind_of s c) && (is_some (block_typing left locals)
+    && is_some (block_typing right locals))) locals
 stmt_step t funs reply (Stmt-F.Case e left right) locals =
     let s = scope t funs locals in given (type_of (kind_of s e)) (λ o. given (payload_of o) (λ u.
     if_so (is_some (block_typing left locals) && is_some (block_typing right (locals ++ u ∷ []))) locals))

@@ -1,5 +1,6 @@
 -- What an expression gives: a number, or a value of a type. No kind where it is not well typed.
-use Rattle.std.specs.Prelude.{ℕ, ◌==◌, ltb, leb, Bool, true, false, not, ◌&&◌, ◌||◌, if◌then◌else◌, List, [], ◌∷◌, length, slice_get, Option, Some, None, option_map}
+use Rattle.std.specs.Prelude.{ℕ, ◌==◌, ltb, leb, Bool, true, false, not, ◌&&◌, ◌||◌, if◌then◌else◌, List, [], ◌∷◌}
+use Rattle.std.specs.Prelude.{length, slice_get, Option, Some, None, option_map}
 use Rattle.std.specs.List.{list_all}
 use Rattle.cm_model.specs.Limits.{is_number}
 use Rattle.cm_model.specs.Tables.{Tables}
@@ -137,12 +138,17 @@ option_kind t payload = if_so (is_type_in_use t (ty.Option payload)) (Of (ty.Opt
 
 abbrev pub kind_step : Scope → Expr-F (Option Kind) Set → Option Kind
 kind_step s (Expr-F.Num n) = if_so (is_number n) Number
-kind_step s (Expr-F.Tag e i) = given (slice_get s.tables.enums e) (λ d. if_so (ltb i (length d.variants)) (Of (ty.Enum e)))
+kind_step s (Expr-F.Tag e i) = given (slice_get s.tables.enums e) (λ d. if_so (ltb i (length d.variants))
+    (Of (ty.Enum e)))
 kind_step s (Expr-F.Local i) = option_map Of (slice_get s.locals i)
-kind_step s (Expr-F.Cell state key) = given (slice_get s.tables.states state) (λ d. if_so (is_key d.key key) (Of d.value))
-kind_step s (Expr-F.Fields e path) = given (type_of e) (λ t. if ltb 0 (length path) then option_map Of (type_at s.tables t path) else None)
-kind_step s (Expr-F.With e sets) = given (type_of e) (λ t. if_so (ltb 0 (length sets) && are_sets s.tables t sets) (Of t))
-kind_step s (Expr-F.Make r parts) = given (slice_get s.tables.records r) (λ d. if_so (are_of d.fields parts) (Of (ty.Rec r)))
+kind_step s (Expr-F.Cell state key) = given (slice_get s.tables.states state)
+    (λ d. if_so (is_key d.key key) (Of d.value))
+kind_step s (Expr-F.Fields e path) = given (type_of e) (λ t. if ltb 0 (length path) then option_map Of
+    (type_at s.tables t path) else None)
+kind_step s (Expr-F.With e sets) = given (type_of e) (λ t. if_so (ltb 0 (length sets) && are_sets s.tables t sets)
+    (Of t))
+kind_step s (Expr-F.Make r parts) = given (slice_get s.tables.records r) (λ d. if_so (are_of d.fields parts)
+    (Of (ty.Rec r)))
 kind_step s (Expr-F.NoneOf t) = option_kind s.tables t
 kind_step s (Expr-F.SomeOf e) = given (type_of e) (option_kind s.tables)
 kind_step s (Expr-F.Shift e by) = if_so (is_integer e && is_number by) Number
@@ -151,7 +157,8 @@ kind_step s (Expr-F.Compare o left right) = if_so (are_comparable o left right) 
 kind_step s (Expr-F.All es) = if_so (leb 2 (length es) && list_all is_bool es) (Of bool_ty)
 kind_step s (Expr-F.Any es) = if_so (leb 2 (length es) && list_all is_bool es) (Of bool_ty)
 kind_step s (Expr-F.Not e) = if_so (is_bool e) (Of bool_ty)
-kind_step s (Expr-F.Apply f args) = if ltb f s.funs then given (slice_get s.tables.funs f) (λ d. if_so (are_of d.params args) (Of d.reply)) else None
+kind_step s (Expr-F.Apply f args) = if ltb f s.funs then given (slice_get s.tables.funs f)
+    (λ d. if_so (are_of d.params args) (Of d.reply)) else None
 
 abbrev pub set_step : SetField-F (Option Kind) Set → Set
 set_step x = (x.field, x.value)

@@ -1,5 +1,6 @@
 -- The names of a model.
-use Rattle.std.specs.Prelude.{ℕ, leb, ◌==◌, Bool, true, false, not, ◌&&◌, ◌||◌, List, [], ◌∷◌, ◌++◌, map, length, codes, bytes_eq, flat_map, drop}
+use Rattle.std.specs.Prelude.{ℕ, leb, ◌==◌, Bool, true, false, not, ◌&&◌, ◌||◌, List, [], ◌∷◌, ◌++◌, map, length, codes}
+use Rattle.std.specs.Prelude.{bytes_eq, flat_map, drop}
 use Rattle.std.specs.List.{list_all}
 use Rattle.cm_model.specs.Limits.{name_limit}
 use Rattle.cm_model.specs.Tables.{Tables}
@@ -15,9 +16,12 @@ is_name_byte n = is_letter n || ((leb 48 n && leb n 57) || (n == 95))
 
 abbrev pub reserved_words : List (List ℕ)
 reserved_words =
-    codes "and" ∷ codes "assume" ∷ codes "bool" ∷ codes "call" ∷ codes "case" ∷ codes "else" ∷ codes "enum" ∷ codes "false" ∷ codes "fn"
-    ∷ codes "if" ∷ codes "int" ∷ codes "internal" ∷ codes "it" ∷ codes "let" ∷ codes "map" ∷ codes "none" ∷ codes "not" ∷ codes "option"
-    ∷ codes "or" ∷ codes "record" ∷ codes "return" ∷ codes "some" ∷ codes "sort" ∷ codes "state" ∷ codes "true" ∷ codes "where"
+    codes "and" ∷ codes "assume" ∷ codes "bool" ∷ codes "call" ∷ codes "case" ∷ codes "else" ∷ codes "enum"
+    ∷ codes "false" ∷ codes "fn"
+    ∷ codes "if" ∷ codes "int" ∷ codes "internal" ∷ codes "it" ∷ codes "let" ∷ codes "map" ∷ codes "none"
+    ∷ codes "not" ∷ codes "option"
+    ∷ codes "or" ∷ codes "record" ∷ codes "return" ∷ codes "some" ∷ codes "sort" ∷ codes "state" ∷ codes "true"
+    ∷ codes "where"
     ∷ codes "with" ∷ []
 
 abbrev pub is_among : List ℕ → List (List ℕ) → Bool
@@ -30,7 +34,8 @@ begins_with_letter (n ∷ ns) = is_letter n
 
 -- at most 40 bytes, a letter first, and no reserved word
 abbrev pub is_name : List ℕ → Bool
-is_name name = (begins_with_letter name && list_all is_name_byte name) && (leb (length name) name_limit && not (is_among name reserved_words))
+is_name name = (begins_with_letter name && list_all is_name_byte name) && (leb (length name) name_limit
+    && not (is_among name reserved_words))
 
 abbrev pub are_distinct : List (List ℕ) → Bool
 are_distinct [] = true

@@ -15,5 +15,15 @@ pub record Tables : Type 0 where
   pub funs : List Call
   pub calls : List Call
 
-abbrev pub tables : List (List ℕ) → List IntDecl → List EnumDecl → List RecDecl → List StateDecl → List Call → List Call → Tables
-tables names is es rs ss fs cs = record { sorts = names; ints = is; enums = es; records = rs; states = ss; funs = fs; calls = cs }
+abbrev pub tables : List (List ℕ) → List IntDecl → List EnumDecl → List RecDecl → List StateDecl → List Call
+    → List Call → Tables
+tables names is es rs ss fs cs = record {
+  sorts = names;
+  ints = is;
+  enums = es;
+  records = rs;
+  states =
+      ss;
+  funs = fs;
+  calls = cs;
+}

@@ -1,5 +1,6 @@
 -- The types that tables declare, and what can be counted in them.
-use Rattle.std.specs.Prelude.{ℕ, ◌+◌, ◌==◌, ltb, leb, Bool, true, false, ◌&&◌, ◌||◌, List, [], ◌∷◌, ◌++◌, map, length, sum, take, slice_get, Option, Some, None, IsTrue}
+use Rattle.std.specs.Prelude.{ℕ, ◌+◌, ◌==◌, ltb, leb, Bool, true, false, ◌&&◌, ◌||◌, List, [], ◌∷◌, ◌++◌, map, length}
+use Rattle.std.specs.Prelude.{sum, take, slice_get, Option, Some, None, IsTrue}
 use Rattle.std.specs.List.{list_all}
 use Rattle.cm_model.specs.Limits.{width_limit, integer_limit}
 use Rattle.cm_model.specs.Tables.{Tables}
@@ -90,7 +91,8 @@ holds_option t = holds_option_in (record_options t.records)
 -- a type in use: declared, and neither too wide nor with too many integers. Such are the types that a text
 -- names, its records, and the types of its expressions; so no value is deeper than the limit on widths
 abbrev pub is_type_in_use : Tables → Ty → Bool
-is_type_in_use t ty = is_type_before t (length t.records) ty && (leb (width_of t ty) width_limit && leb (integers_of t ty) integer_limit)
+is_type_in_use t ty = is_type_before t (length t.records) ty && (leb (width_of t ty) width_limit
+    && leb (integers_of t ty) integer_limit)
 
 abbrev pub same_step : Ty-F (Ty → Bool) → Ty-F Ty → Bool
 same_step (Ty-F.Sort s) (Ty-F.Sort r) = s == r

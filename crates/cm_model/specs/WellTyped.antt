@@ -1,9 +1,11 @@
 -- When tables are those of a well typed model: the type rules and what the grammar gives, as far as they
 -- speak of numbers instead of names.
-use Rattle.std.specs.Prelude.{ℕ, ◌+◌, ◌≤◌, leb, int_le, Bool, true, false, not, ◌&&◌, List, [], ◌∷◌, map, length, sum, codes, bytes_eq, Option, Some, None, IsTrue}
+use Rattle.std.specs.Prelude.{ℕ, ◌+◌, ◌≤◌, leb, int_le, Bool, true, false, not, ◌&&◌, List, [], ◌∷◌, map, length, sum}
+use Rattle.std.specs.Prelude.{codes, bytes_eq, Option, Some, None, IsTrue}
 use Rattle.std.specs.List.{list_all}
 use Rattle.cm_model.specs.Limits.{declaration_limit, function_limit, call_limit, variant_limit, shift_limit}
-use Rattle.cm_model.specs.Limits.{parameters_width_limit, parameters_integer_limit, invariant_weight_limit, body_weight_limit}
+use Rattle.cm_model.specs.Limits.{parameters_width_limit, parameters_integer_limit, invariant_weight_limit}
+use Rattle.cm_model.specs.Limits.{body_weight_limit}
 use Rattle.cm_model.specs.Limits.{is_number}
 use Rattle.cm_model.specs.Tables.{Tables}
 use Rattle.cm_model.specs.Types.{is_type_before, is_type_in_use, width_of, integers_of, holds_option}
@@ -47,7 +49,8 @@ begins_with_bool (d ∷ ds) = bytes_eq d.name (codes "bool") && is_false_true d.
 abbrev pub is_record : Tables → ℕ → RecDecl → Bool
 is_record t n d =
     leb 1 (length d.fields) && (list_all (λ p. is_type_before t n p.ty && is_type_in_use t p.ty) d.fields
-    && ((are_distinct (part_names d.fields) && list_all is_name (part_names d.fields)) && is_type_in_use t (form.Rec n)))
+    && ((are_distinct (part_names d.fields) && list_all is_name (part_names d.fields))
+    && is_type_in_use t (form.Rec n)))
 
 -- a type in use that a key may have
 abbrev pub is_key_type : Tables → Option Ty → Bool
@@ -58,7 +61,8 @@ is_key_type t (Some ty) = is_type_in_use t ty && not (holds_option t ty)
 abbrev pub is_invariant : Tables → Ty → Option Expr → Bool
 is_invariant t ty None = true
 is_invariant t ty (Some e) =
-    is_bool (kind_of (scope t 0 (ty ∷ [])) e) && (is_plain e && (leb (expr_weight [] e) invariant_weight_limit && leb (shifts_of e) shift_limit))
+    is_bool (kind_of (scope t 0 (ty ∷ [])) e) && (is_plain e && (leb (expr_weight [] e) invariant_weight_limit
+    && leb (shifts_of e) shift_limit))
 
 abbrev pub is_state : Tables → StateDecl → Bool
 is_state t d = is_key_type t d.key && (is_type_in_use t d.value && is_invariant t d.value d.inv)
@@ -72,7 +76,8 @@ are_parameters t types =
 -- a function or call over the first functions
 abbrev pub is_call : Tables → ℕ → Call → Bool
 is_call t funs d =
-    (are_parameters t (map (λ p. p.ty) d.params) && (are_distinct (d.name ∷ part_names d.params) && list_all is_name (part_names d.params)))
+    (are_parameters t (map (λ p. p.ty) d.params) && (are_distinct (d.name ∷ part_names d.params)
+    && list_all is_name (part_names d.params)))
     && ((leb d.outer (length d.params) && is_type_in_use t d.reply)
     && ((is_body t funs d.reply (map (λ p. p.ty) d.params) d.body && always_returns d.body)
     && (leb (body_weight (fun_weights t.funs) d.body) body_weight_limit && leb (body_shifts d.body) shift_limit)))

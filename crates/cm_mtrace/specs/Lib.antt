@@ -1,4 +1,4 @@
 pub mod Lines
 pub mod Reader
-pub mod Reading
 pub mod Trace
+pub mod inner

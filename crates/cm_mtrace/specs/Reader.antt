@@ -27,7 +27,8 @@ NamesFirst text Memory = ⊤
 
 -- the line that it names is whole, or open and longer than any line of a trace
 abbrev pub NamesSeen : List ℕ → TraceFault → Type 0
-NamesSeen text (BadLine line) = (line ≤ length (whole_lines text)) ⊎ ((line ≡ length (whole_lines text) + 1) × (80 < length (open_line text)))
+NamesSeen text (BadLine line) = (line ≤ length (whole_lines text)) ⊎ ((line ≡ length (whole_lines text) + 1)
+    × (80 < length (open_line text)))
 NamesSeen text Memory = ⊤
 
 -- the text ends here, and the fault names its first bad line
@@ -38,5 +39,7 @@ EndsBad text Memory = ⊥
 -- the items of the lines before the one that the fault names were given
 abbrev pub GaveEarlier : Progress → List ℕ → List Item → List Item → TraceFault → Type 0
 GaveEarlier p piece old new (BadLine line) =
-    p.fault ≡ None → (given : List Item) × (new ≡ old ++ given) × ((text : List ℕ) (items : List Item) → StandsFor p text → GiveItems (whole_lines text) items → GiveItems (take (line - 1) (whole_lines (text ++ piece))) (items ++ given))
+    p.fault ≡ None → (given : List Item) × (new ≡ old ++ given) × ((text : List ℕ) (items : List Item)
+    → StandsFor p text → GiveItems (whole_lines text) items
+    → GiveItems (take (line - 1) (whole_lines (text ++ piece))) (items ++ given))
 GaveEarlier p piece old new Memory = ⊤

@@ -1,5 +1,6 @@
 -- The text of a trace, and which lines of a text are bad.
-use Rattle.std.specs.Prelude.{◌≡◌, ◌⊎◌, ℕ, ◌+◌, ◌-◌, ◌<◌, ◌≤◌, ◌==◌, List, [], ◌∷◌, ◌++◌, All, codes, decimal, flat_map, length, map, slice_index_or, take}
+use Rattle.std.specs.Prelude.{◌≡◌, ◌⊎◌, ℕ, ◌+◌, ◌-◌, ◌<◌, ◌≤◌, ◌==◌, List, [], ◌∷◌, ◌++◌, All, codes, decimal, flat_map}
+use Rattle.std.specs.Prelude.{length, map, slice_index_or, take}
 use Rattle.std.specs.List.{join_with_byte, slice_split}
 use Rattle.cm_text.specs.Numeral.{hexadecimal}
 use Rattle.cm_mtrace.specs.Lines.{IsInRange}
@@ -77,7 +78,8 @@ pub record IsTrace (sections : List Section) (text : List ℕ) : Type 0 where
 
 -- some trace begins with these lines
 abbrev pub BeginsTrace : List (List ℕ) → Type 0
-BeginsTrace lines = (sections : List Section) × (more : List (List ℕ)) × All IsItem (items_of sections) × (trace_lines sections ≡ lines ++ more)
+BeginsTrace lines = (sections : List Section) × (more : List (List ℕ)) × All IsItem (items_of sections)
+    × (trace_lines sections ≡ lines ++ more)
 
 -- a text, cut at its newlines
 abbrev pub lines_of : List ℕ → List (List ℕ)

@@ -1,11 +1,12 @@
 //! One line of a trace.
 
-ghost use Rattle.std.specs.Prelude.{◌≡◌, ◌≢◌, ◌↔◌, IsTrue, List, ℕ, ◌<◌, ◌≤◌, ◌+◌, ◌^◌, ◌++◌, [], ◌∷◌, ◌==◌, length, codes, IfSome, MatchOption};
+ghost use Rattle.std.specs.Prelude.{◌≡◌, ◌≢◌, ◌↔◌, IsTrue, List, ℕ, ◌<◌, ◌≤◌, ◌+◌, ◌^◌, ◌++◌, [], ◌∷◌, ◌==◌, length};
+ghost use Rattle.std.specs.Prelude.{codes, IfSome, MatchOption};
 ghost use Rattle.cm_mtrace.specs.declared.item.Entry.{Entry};
 ghost use Rattle.cm_mtrace.specs.declared.item.Item.TheVariants as items;
 ghost use Rattle.cm_mtrace.specs.declared.item.Kind.{Kind};
 ghost use Rattle.cm_mtrace.specs.declared.item.Who.{Who};
-ghost use Rattle.cm_mtrace.specs.Reading.{IsLine, with_marks, with_size};
+ghost use Rattle.cm_mtrace.specs.inner.Reading.{IsLine, with_marks, with_size};
 ghost use Rattle.cm_mtrace.specs.Trace.{IsEntry, IsNameByte, IsSectionName, kind_text, line_of, mark_text};
 
 use crate::{Entry, Kind, Who};
@@ -117,7 +118,8 @@ fn is_in_range(addr: u64, size: u64) -> bool
 /// The entry whose line stands at the front of a text, and what stands behind the line's newline.
 #[inline(always)]
 pub fn entry_at(text: &[u8]) -> Option<(Entry, &[u8])>
-    ensures { MatchOption result ((e : Entry) (rest : List ℕ) → IsEntry e → text.now ≢ line_of (items.Entry e) ++ codes "\n" ++ rest)
+    ensures { MatchOption result ((e : Entry) (rest : List ℕ) → IsEntry e
+        → text.now ≢ line_of (items.Entry e) ++ codes "\n" ++ rest)
         (λ r. IsEntry r.0 × (text.now ≡ line_of (items.Entry r.0) ++ codes "\n" ++ r.1.now)) }
 {
     let Some((core, rest)) = short_decimal_at(text, 1023) else {

@@ -1,7 +1,8 @@
 //! A piece of a stream, behind an open line.
 
-ghost use Rattle.std.specs.Prelude.{◌≡◌, ◌++◌, ◌+◌, ◌-◌, ◌^◌, ◌<◌, ◌≤◌, [], ◌∷◌, codes, length, IfOk, MatchBool, MatchResult, OnErr};
-ghost use Rattle.cm_mtrace.specs.Reading.{BadNext, IsKept, IsLine, Reaches, Reads};
+ghost use Rattle.std.specs.Prelude.{◌≡◌, ◌++◌, ◌+◌, ◌-◌, ◌^◌, ◌<◌, ◌≤◌, [], ◌∷◌, codes, length, IfOk, MatchBool};
+ghost use Rattle.std.specs.Prelude.{MatchResult, OnErr};
+ghost use Rattle.cm_mtrace.specs.inner.Reading.{BadNext, IsKept, IsLine, Reaches, Reads};
 
 use crate::Item;
 use crate::line::cut;
@@ -12,7 +13,8 @@ use std::alloc::Global;
 /// The most bytes of a line before its newline.
 const LONGEST: usize = 80;
 
-/// How far a piece was read: so many lines now begin a trace, and what stands behind them fits there; or the next line is
+/// How far a piece was read: so many lines now begin a trace, and what stands behind them fits there; or the next line
+/// is
 /// bad.
 #[derive(Clone, Copy)]
 pub struct Reached {
@@ -48,7 +50,8 @@ fn read_on(
     requires empty { left.old.items ≡ [] }
     requires room { before + length text.now < 2 ^ 64 - 1 }
     ensures reaches { IfOk result (λ r. Reaches before text.now to.old.items to.new.items r.lines r.fits left.new.items) }
-    ensures counted { MatchResult result (λ r. r.lines + length left.new.items ≤ before + length text.now) (λ _. left.new.items ≡ []) }
+    ensures counted { MatchResult result (λ r. r.lines + length left.new.items ≤ before + length text.now)
+        (λ _. left.new.items ≡ []) }
     ensures kept { IsKept left.new.items }
 {
     let end = read_lines(alloc, before, text, to)?;
@@ -86,7 +89,8 @@ fn ended_step(
     requires left { IsLine left.now }
     requires front { IsLine front.now }
     ensures { IfOk result (λ fits. MatchBool fits
-        (Reads before (left.now ++ front.now ++ codes "\n") ((left.now ++ front.now) ∷ []) [] to.old.items to.new.items (before + 1))
+        (Reads before (left.now ++ front.now ++ codes "\n") ((left.now ++ front.now) ∷ []) [] to.old.items
+        to.new.items (before + 1))
         (BadNext before (left.now ++ front.now ++ codes "\n") × (to.new.items ≡ to.old.items))) }
 {
     let line = ended(alloc, left, front)?;
@@ -97,7 +101,8 @@ fn ended_step(
     }
 }
 
-/// Reads a piece behind so many whole lines and an open one, adds the items of the lines that are whole now, and keeps the
+/// Reads a piece behind so many whole lines and an open one, adds the items of the lines that are whole now, and keeps
+/// the
 /// open line.
 pub fn read_piece(
     alloc: Global,
@@ -108,8 +113,10 @@ pub fn read_piece(
 ) -> Result<Reached, NoMemory>
     requires kept { IsKept left.old.items }
     requires room { before + length left.old.items + length piece.now < 2 ^ 64 - 1 }
-    ensures reaches { IfOk result (λ r. Reaches before (left.old.items ++ piece.now) to.old.items to.new.items r.lines r.fits left.new.items) }
-    ensures counted { MatchResult result (λ r. r.lines + length left.new.items ≤ before + length left.old.items + length piece.now)
+    ensures reaches { IfOk result (λ r. Reaches before (left.old.items ++ piece.now) to.old.items to.new.items
+        r.lines r.fits left.new.items) }
+    ensures counted { MatchResult result (λ r. r.lines + length left.new.items ≤ before + length left.old.items + length
+        piece.now)
         (λ _. length left.new.items ≤ length left.old.items) }
     ensures kept { IsKept left.new.items }
 {

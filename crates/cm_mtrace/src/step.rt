@@ -1,7 +1,7 @@
 //! The lines of a text, one after another.
 
 ghost use Rattle.std.specs.Prelude.{◌≡◌, ◌-◌, ◌+◌, ◌^◌, ◌<◌, ◌≤◌, ℕ, List, length, IfOk, MatchOption};
-ghost use Rattle.cm_mtrace.specs.Reading.{Ends, Reads, SectionSteps, Steps};
+ghost use Rattle.cm_mtrace.specs.inner.Reading.{Ends, Reads, SectionSteps, Steps};
 ghost use Rattle.cm_mtrace.specs.declared.item.Item.{Item};
 
 use crate::Item;
@@ -9,7 +9,8 @@ use crate::line::{cut, entry_at, section_name};
 use cm_model::{Name, NoMemory};
 use std::alloc::Global;
 
-/// What a step over a text finds at its front: a line that fits there, with what stands behind it; no whole line; or a line
+/// What a step over a text finds at its front: a line that fits there, with what stands behind it; no whole line; or a
+/// line
 /// with which no trace goes on.
 #[derive(Clone, Copy)]
 pub enum Step<'a> {
@@ -74,7 +75,8 @@ pub fn next_step<'a>(
     }
 }
 
-/// Where a text was read to: so many lines now begin a trace, and the last of them is open; or none is, and the next line is
+/// Where a text was read to: so many lines now begin a trace, and the last of them is open; or none is, and the next
+/// line is
 /// bad.
 #[derive(Clone, Copy)]
 pub struct Ending<'a> {
@@ -90,7 +92,8 @@ fn read_entries<'a>(
     to: &mut Vec<Item>,
 ) -> Result<(u64, &'a [u8]), NoMemory>
     requires { before + length text.now < 2 ^ 64 - 1 }
-    ensures reads { IfOk result (λ r. (first : ℕ) (all : List ℕ) (whole : List (List ℕ)) (old : List Item) → Reads first all whole text.now old to.old.items before
+    ensures reads { IfOk result (λ r. (first : ℕ) (all : List ℕ) (whole : List (List ℕ)) (old : List Item)
+        → Reads first all whole text.now old to.old.items before
         → (more : List (List ℕ)) × Reads first all more r.1.now old to.new.items r.0) }
     ensures counted { IfOk result (λ r. r.0 + length r.1.now ≤ before + length text.now) }
     ensures shorter { IfOk result (λ r. length r.1.now ≤ length text.now) }
@@ -119,7 +122,8 @@ pub fn read_lines<'a>(
 ) -> Result<Ending<'a>, NoMemory>
     requires { before + length text.now < 2 ^ 64 - 1 }
     ensures ends { IfOk result (λ end. Ends before text.now to.old.items to.new.items end.lines end.left) }
-    ensures counted { IfOk result (λ end. MatchOption end.left (end.lines ≤ before + length text.now) (λ left. end.lines + length left.now ≤ before + length text.now)) }
+    ensures counted { IfOk result (λ end. MatchOption end.left (end.lines ≤ before + length text.now)
+        (λ left. end.lines + length left.now ≤ before + length text.now)) }
 {
     let mut rest = text;
     let mut lines = before;

@@ -1,10 +1,11 @@
 -- Differences that are closed: one more edge, and the least valuation.
-use Rattle.std.proofs.Common.{◌≡◌, ◌<◌, ◌↔◌, ℕ, ℤ, pos, negsuc, ◌+ℤ◌, ◌-ℤ◌, ◌≤ℤ◌, ◌<ℤ◌, neg_ℤ, FitsSigned, w32, false, ◌∙◌, arith, rules}
+use Rattle.std.proofs.Common.{◌≡◌, ◌<◌, ◌↔◌, ℕ, ℤ, pos, negsuc, ◌+ℤ◌, ◌-ℤ◌, ◌≤ℤ◌, ◌<ℤ◌, neg_ℤ, FitsSigned, w32, false}
+use Rattle.std.proofs.Common.{◌∙◌, arith, rules}
 use Rattle.std.specs.Int.{int_min}
 use Rattle.std.specs.Int.Signed.{lt_z}
 use Rattle.std.proofs.lemmas.Int.{ints, to_z-of_z}
 use mir.Val.{of_z, to_z}
-use Rattle.cm_order.specs.Shells.{IsClosed, with_edge}
+use Rattle.cm_order.specs.inner.Shells.{IsClosed, with_edge}
 
 pub fits_between : (z : ℤ) → negsuc 1100000000 ≤ℤ z → z ≤ℤ pos 1100000000 → FitsSigned w32 z
 fits_between z low high = search (rules, ints)
@@ -23,13 +24,15 @@ entry_low n d h some i j p q =
     let a = entry_high n d h some j i q p in
     omega (arith, ints)
 
-pub sum_fits : (n : ℕ) (d : ℕ → ℕ → ℤ) (w : ℤ) → IsClosed n d → 0 < n → negsuc 1000000000 ≤ℤ w → w ≤ℤ pos 1000000001 → (i x : ℕ) → i < n → x < n → FitsSigned w32 (d i x +ℤ w)
+pub sum_fits : (n : ℕ) (d : ℕ → ℕ → ℤ) (w : ℤ) → IsClosed n d → 0 < n → negsuc 1000000000 ≤ℤ w → w ≤ℤ pos 1000000001
+    → (i x : ℕ) → i < n → x < n → FitsSigned w32 (d i x +ℤ w)
 sum_fits n d w h some low high i x p q =
     let a = entry_low n d h some i x p q in
     let b = entry_high n d h some i x p q in
     fits_between (d i x +ℤ w) (omega (arith, ints)) (omega (arith, ints))
 
-pub sums_fit : (n : ℕ) (d : ℕ → ℕ → ℤ) (w : ℤ) → IsClosed n d → 0 < n → negsuc 1000000000 ≤ℤ w → w ≤ℤ pos 1000000001 → (i x y j : ℕ) → i < n → x < n → y < n → j < n → FitsSigned w32 ((d i x +ℤ w) +ℤ d y j)
+pub sums_fit : (n : ℕ) (d : ℕ → ℕ → ℤ) (w : ℤ) → IsClosed n d → 0 < n → negsuc 1000000000 ≤ℤ w → w ≤ℤ pos 1000000001
+    → (i x y j : ℕ) → i < n → x < n → y < n → j < n → FitsSigned w32 ((d i x +ℤ w) +ℤ d y j)
 sums_fit n d w h some low high i x y j p q r s =
     let a = entry_low n d h some i x p q in
     let b = entry_high n d h some i x p q in
@@ -38,7 +41,8 @@ sums_fit n d w h some low high i x y j p q r s =
     fits_between ((d i x +ℤ w) +ℤ d y j) (omega (arith, ints)) (omega (arith, ints))
 
 -- what is at most each of four sums is at most the sum of the lesser ones
-four_sums : (m a b x y : ℤ) → m ≤ℤ (a +ℤ x) → m ≤ℤ (a +ℤ y) → m ≤ℤ (b +ℤ x) → m ≤ℤ (b +ℤ y) → m ≤ℤ (int_min a b +ℤ int_min x y)
+four_sums : (m a b x y : ℤ) → m ≤ℤ (a +ℤ x) → m ≤ℤ (a +ℤ y) → m ≤ℤ (b +ℤ x) → m ≤ℤ (b +ℤ y)
+    → m ≤ℤ (int_min a b +ℤ int_min x y)
 four_sums m a b x y p q r s = grind (arith, ints)
 
 min_left : (a b c : ℤ) → (a ≤ℤ c) → int_min a b ≤ℤ c
@@ -60,7 +64,8 @@ below_min_right : (m a b : ℤ) → m ≤ℤ int_min a b → m ≤ℤ b
 below_min_right m a b h = grind (arith, ints)
 
 -- one more edge keeps closed what is consistent with it
-pub edge_closed : (n : ℕ) (d : ℕ → ℕ → ℤ) (p q : ℕ) (w : ℤ) → IsClosed n d → p < n → q < n → pos 0 ≤ℤ (w +ℤ d q p) → IsClosed n (with_edge d p q w)
+pub edge_closed : (n : ℕ) (d : ℕ → ℕ → ℤ) (p q : ℕ) (w : ℤ) → IsClosed n d → p < n → q < n → pos 0 ≤ℤ (w +ℤ d q p)
+    → IsClosed n (with_edge d p q w)
 edge_closed n d p q w h pn qn ok = record {
   zero = λ i u. let a = h.triangle q p i qn pn u in let b = h.zero i u in grind (arith, ints);
   triangle = λ i j k u v t.
@@ -80,13 +85,15 @@ edge_closed n d p q w h pn qn ok = record {
 }
 
 -- an edge that is known changes nothing
-pub edge_known : (n : ℕ) (d : ℕ → ℕ → ℤ) (p q : ℕ) (w : ℤ) → IsClosed n d → p < n → q < n → d p q ≤ℤ w → (i j : ℕ) → i < n → j < n → d i j ≡ with_edge d p q w i j
+pub edge_known : (n : ℕ) (d : ℕ → ℕ → ℤ) (p q : ℕ) (w : ℤ) → IsClosed n d → p < n → q < n → d p q ≤ℤ w
+    → (i j : ℕ) → i < n → j < n → d i j ≡ with_edge d p q w i j
 edge_known n d p q w h pn qn known i j u v =
     let a = h.triangle i j p u v pn in
     let b = h.triangle p j q pn v qn in
     min_first (d i j) ((d i p +ℤ w) +ℤ d q j) (omega (arith, ints))
 
-pub closed_same : (n : ℕ) (d e : ℕ → ℕ → ℤ) → 0 < n → ((i j : ℕ) → i < n → j < n → e i j ≡ d i j) → IsClosed n d → IsClosed n e
+pub closed_same : (n : ℕ) (d e : ℕ → ℕ → ℤ) → 0 < n → ((i j : ℕ) → i < n → j < n → e i j ≡ d i j) → IsClosed n d
+    → IsClosed n e
 closed_same n d e some same h = record {
   zero = λ i u. same i i u u ∙ h.zero i u;
   triangle = λ i j k u v t. rw (same i j u v, same i k u t, same k j t v) (h.triangle i j k u v t);
@@ -99,16 +106,24 @@ pub record Meets (n : ℕ) (d : ℕ → ℕ → ℤ) (v : ℕ → ℤ) : Type 0 
   pub zero : v 0 ≡ pos 0
   pub within : (i j : ℕ) → i < n → j < n → (v i -ℤ v j) ≤ℤ d i j
 
-pub meets_same : (n : ℕ) (d e : ℕ → ℕ → ℤ) (v : ℕ → ℤ) → ((i j : ℕ) → i < n → j < n → e i j ≡ d i j) → Meets n d v → Meets n e v
+pub meets_same : (n : ℕ) (d e : ℕ → ℕ → ℤ) (v : ℕ → ℤ) → ((i j : ℕ) → i < n → j < n → e i j ≡ d i j)
+    → Meets n d v → Meets n e v
 meets_same n d e v same h = record { zero = h.zero; within = λ i j p q. rw (same i j p q) (h.within i j p q) }
 
-pub edge_meets : (n : ℕ) (d : ℕ → ℕ → ℤ) (p q : ℕ) (w : ℤ) → IsClosed n d → p < n → q < n → (v : ℕ → ℤ) → Meets n (with_edge d p q w) v ↔ (Meets n d v × ((v p -ℤ v q) ≤ℤ w))
+pub edge_meets : (n : ℕ) (d : ℕ → ℕ → ℤ) (p q : ℕ) (w : ℤ) → IsClosed n d → p < n → q < n → (v : ℕ → ℤ)
+    → Meets n (with_edge d p q w) v ↔ (Meets n d v × ((v p -ℤ v q) ≤ℤ w))
 edge_meets n d p q w h pn qn v = (
   (λ s.
       let sum = below_min_right (v p -ℤ v q) (d p q) ((d p p +ℤ w) +ℤ d q q) (s.within p q pn qn) in
       let b = h.zero p pn in
-      let e = h.zero q qn in
-      (record { zero = s.zero; within = λ i j u t. below_min_left (v i -ℤ v j) (d i j) ((d i p +ℤ w) +ℤ d q j) (s.within i j u t) }, omega (arith, ints))),
+      let e = h.zero q qn in (
+        record {
+          zero = s.zero;
+          within = λ i j u t. below_min_left (v i -ℤ v j) (d i j) ((d i p +ℤ w) +ℤ d q j)
+              (s.within i j u t);
+        },
+        omega (arith, ints),
+      )),
   (λ s. record {
     zero = s.0.zero;
     within = λ i j u t.
@@ -130,34 +145,42 @@ pub least_below : (n : ℕ) (d : ℕ → ℕ → ℤ) (v : ℕ → ℤ) → 0 < 
 least_below n d v some s i p = let a = s.within 0 i some p in let z = s.zero in grind (arith, ints)
 
 -- an edge that is consistent has a valuation
-pub edge_witness : (n : ℕ) (d : ℕ → ℕ → ℤ) (p q : ℕ) (w : ℤ) → IsClosed n d → 0 < n → p < n → q < n → pos 0 ≤ℤ (w +ℤ d q p) → (v : ℕ → ℤ) × Meets n d v × ((v p -ℤ v q) ≤ℤ w)
+pub edge_witness : (n : ℕ) (d : ℕ → ℕ → ℤ) (p q : ℕ) (w : ℤ) → IsClosed n d → 0 < n → p < n → q < n
+    → pos 0 ≤ℤ (w +ℤ d q p) → (v : ℕ → ℤ) × Meets n d v × ((v p -ℤ v q) ≤ℤ w)
 edge_witness n d p q w h some pn qn ok =
     let closed : IsClosed n (with_edge d p q w) = edge_closed n d p q w h pn qn ok in
-    let both = (edge_meets n d p q w h pn qn (λ i. neg_ℤ (with_edge d p q w 0 i))).0 (least_meets n (with_edge d p q w) closed some) in
+    let both = (edge_meets n d p q w h pn qn (λ i. neg_ℤ (with_edge d p q w 0 i))).0
+    (least_meets n (with_edge d p q w) closed some) in
     ((λ i. neg_ℤ (with_edge d p q w 0 i)), both.0, both.1)
 
 not_below : (m r : ℤ) → lt_z m r ≡ false → r ≤ℤ m
 not_below m r h = grind (arith, ints)
 
 -- as the code tests it
-pub not_below_bits : (m r : ℤ) → FitsSigned w32 m → FitsSigned w32 r → lt_z (to_z w32 (of_z w32 m)) (to_z w32 (of_z w32 r)) ≡ false → r ≤ℤ m
+pub not_below_bits : (m r : ℤ) → FitsSigned w32 m → FitsSigned w32 r
+    → lt_z (to_z w32 (of_z w32 m)) (to_z w32 (of_z w32 r)) ≡ false → r ≤ℤ m
 not_below_bits m r f g h = not_below m r (rw (to_z-of_z w32 m f, to_z-of_z w32 r g) at h)
 
 -- which orders some valuation has
-pub may_lt : (n : ℕ) (d : ℕ → ℕ → ℤ) → IsClosed n d → 0 < n → (x y : ℕ) (c : ℤ) → x < n → y < n → (c <ℤ d y x) ↔ ((v : ℕ → ℤ) × Meets n d v × ((v x +ℤ c) <ℤ v y))
+pub may_lt : (n : ℕ) (d : ℕ → ℕ → ℤ) → IsClosed n d → 0 < n → (x y : ℕ) (c : ℤ) → x < n → y < n
+    → (c <ℤ d y x) ↔ ((v : ℕ → ℤ) × Meets n d v × ((v x +ℤ c) <ℤ v y))
 may_lt n d h some x y c p q = (
-  (λ e. let w = edge_witness n d x y (neg_ℤ c -ℤ pos 1) h some p q (omega (arith, ints)) in let k = w.2 in (w.0, w.1, omega (arith, ints))),
+  (λ e. let w = edge_witness n d x y (neg_ℤ c -ℤ pos 1) h some p q (omega (arith, ints)) in let k = w.2 in
+      (w.0, w.1, omega (arith, ints))),
   (λ w. let a = w.1.within y x q p in let k = w.2 in omega (arith, ints)),
 )
 
-pub may_gt : (n : ℕ) (d : ℕ → ℕ → ℤ) → IsClosed n d → 0 < n → (x y : ℕ) (c : ℤ) → x < n → y < n → (neg_ℤ (d x y) <ℤ c) ↔ ((v : ℕ → ℤ) × Meets n d v × (v y <ℤ (v x +ℤ c)))
+pub may_gt : (n : ℕ) (d : ℕ → ℕ → ℤ) → IsClosed n d → 0 < n → (x y : ℕ) (c : ℤ) → x < n → y < n
+    → (neg_ℤ (d x y) <ℤ c) ↔ ((v : ℕ → ℤ) × Meets n d v × (v y <ℤ (v x +ℤ c)))
 may_gt n d h some x y c p q = (
-  (λ e. let w = edge_witness n d y x (c -ℤ pos 1) h some q p (omega (arith, ints)) in let k = w.2 in (w.0, w.1, omega (arith, ints))),
+  (λ e. let w = edge_witness n d y x (c -ℤ pos 1) h some q p (omega (arith, ints)) in let k = w.2 in
+      (w.0, w.1, omega (arith, ints))),
   (λ w. let a = w.1.within x y p q in let k = w.2 in omega (arith, ints)),
 )
 
 -- the second edge of an equality is consistent with the first
-pub second_edge : (n : ℕ) (d : ℕ → ℕ → ℤ) → IsClosed n d → (x y : ℕ) (c : ℤ) → x < n → y < n → neg_ℤ (d x y) ≤ℤ c → pos 0 ≤ℤ (c +ℤ with_edge d x y (neg_ℤ c) x y)
+pub second_edge : (n : ℕ) (d : ℕ → ℕ → ℤ) → IsClosed n d → (x y : ℕ) (c : ℤ) → x < n → y < n → neg_ℤ (d x y) ≤ℤ c
+    → pos 0 ≤ℤ (c +ℤ with_edge d x y (neg_ℤ c) x y)
 second_edge n d h x y c p q e =
     let a = h.zero x p in
     let b = h.zero y q in
@@ -174,7 +197,8 @@ equal_second : (a b c : ℤ) → (a +ℤ c) ≡ b → (b -ℤ a) ≤ℤ c
 equal_second a b c e = grind (arith, ints)
 
 -- both edges
-pub equal_meets : (n : ℕ) (d : ℕ → ℕ → ℤ) → IsClosed n d → (x y : ℕ) (c : ℤ) → x < n → y < n → neg_ℤ (d x y) ≤ℤ c → c ≤ℤ d y x → (v : ℕ → ℤ)
+pub equal_meets : (n : ℕ) (d : ℕ → ℕ → ℤ) → IsClosed n d → (x y : ℕ) (c : ℤ) → x < n → y < n → neg_ℤ (d x y) ≤ℤ c
+    → c ≤ℤ d y x → (v : ℕ → ℤ)
     → Meets n (with_edge (with_edge d x y (neg_ℤ c)) y x c) v ↔ (Meets n d v × ((v x +ℤ c) ≡ v y))
 equal_meets n d h x y c p q low high v =
     let first : pos 0 ≤ℤ (neg_ℤ c +ℤ d y x) = omega (arith, ints) in
@@ -183,20 +207,26 @@ equal_meets n d h x y c p q low high v =
           let a = (edge_meets n (with_edge d x y (neg_ℤ c)) y x c closed q p v).0 s in
           let b = (edge_meets n d x y (neg_ℤ c) h p q v).0 a.0 in
           (b.0, equal_from (v x) (v y) c b.1 a.1)),
-      (λ s. (edge_meets n (with_edge d x y (neg_ℤ c)) y x c closed q p v).1
-          ((edge_meets n d x y (neg_ℤ c) h p q v).1 (s.0, equal_first (v x) (v y) c s.1), equal_second (v x) (v y) c s.1)),
+      (λ s. (edge_meets n (with_edge d x y (neg_ℤ c)) y x c closed q p v).1 (
+        (edge_meets n d x y (neg_ℤ c) h p q v).1 (s.0, equal_first (v x) (v y) c s.1),
+        equal_second (v x) (v y) c s.1,
+      )),
     )
 
-pub equal_closed : (n : ℕ) (d : ℕ → ℕ → ℤ) → IsClosed n d → (x y : ℕ) (c : ℤ) → x < n → y < n → neg_ℤ (d x y) ≤ℤ c → c ≤ℤ d y x → IsClosed n (with_edge (with_edge d x y (neg_ℤ c)) y x c)
+pub equal_closed : (n : ℕ) (d : ℕ → ℕ → ℤ) → IsClosed n d → (x y : ℕ) (c : ℤ) → x < n → y < n → neg_ℤ (d x y) ≤ℤ c
+    → c ≤ℤ d y x → IsClosed n (with_edge (with_edge d x y (neg_ℤ c)) y x c)
 equal_closed n d h x y c p q low high =
-    edge_closed n (with_edge d x y (neg_ℤ c)) y x c (edge_closed n d x y (neg_ℤ c) h p q (omega (arith, ints))) q p (second_edge n d h x y c p q low)
+    edge_closed n (with_edge d x y (neg_ℤ c)) y x c (edge_closed n d x y (neg_ℤ c) h p q (omega (arith, ints)))
+    q p (second_edge n d h x y c p q low)
 
-pub may_eq : (n : ℕ) (d : ℕ → ℕ → ℤ) → IsClosed n d → 0 < n → (x y : ℕ) (c : ℤ) → x < n → y < n → ((neg_ℤ (d x y) ≤ℤ c) × (c ≤ℤ d y x)) ↔ ((v : ℕ → ℤ) × Meets n d v × ((v x +ℤ c) ≡ v y))
+pub may_eq : (n : ℕ) (d : ℕ → ℕ → ℤ) → IsClosed n d → 0 < n → (x y : ℕ) (c : ℤ) → x < n → y < n
+    → ((neg_ℤ (d x y) ≤ℤ c) × (c ≤ℤ d y x)) ↔ ((v : ℕ → ℤ) × Meets n d v × ((v x +ℤ c) ≡ v y))
 may_eq n d h some x y c p q = (
   (λ e.
       let e2 = with_edge (with_edge d x y (neg_ℤ c)) y x c in
       let u = λ (i : ℕ). neg_ℤ (e2 0 i) in
-      let both = (equal_meets n d h x y c p q e.0 e.1 u).0 (least_meets n e2 (equal_closed n d h x y c p q e.0 e.1) some) in
+      let both = (equal_meets n d h x y c p q e.0 e.1 u).0 (least_meets n e2 (equal_closed n d h x y c p q e.0 e.1)
+      some) in
       (u, both.0, both.1)),
   (λ w. let a = w.1.within x y p q in let b = w.1.within y x q p in
       let f = equal_first (w.0 x) (w.0 y) c w.2 in let g = equal_second (w.0 x) (w.0 y) c w.2 in

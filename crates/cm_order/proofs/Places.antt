@@ -1,12 +1,13 @@
 -- Where differences stand.
-use Rattle.std.proofs.Common.{◌≡◌, ◌<◌, ◌≤◌, ◌+◌, ◌-◌, ◌*◌, ◌==◌, inl, inr, ℕ, ℤ, suc, pos, ◌+ℤ◌, cond, max, List, ◌++◌, length, take, refl, ap, ◌∙◌, arith}
+use Rattle.std.proofs.Common.{◌≡◌, ◌<◌, ◌≤◌, ◌+◌, ◌-◌, ◌*◌, ◌==◌, inl, inr, ℕ, ℤ, suc, pos, ◌+ℤ◌, cond, max, List, ◌++◌}
+use Rattle.std.proofs.Common.{length, take, refl, ap, ◌∙◌, arith}
 use Rattle.std.specs.Int.{int_min}
 use Rattle.std.proofs.lemmas.Bool.{cases_lt, cases_order, le-leb, lt-leb, eq-eqb, ne_eqb}
 use Rattle.std.proofs.lemmas.Int.{ints}
 use Rattle.std.proofs.lemmas.List.{get_or-take, get_or_append_left}
 use Rattle.std.proofs.lemmas.Nat.{mul-le}
 use Rattle.std.proofs.Math.Nat.{mul-suc, suc-mul}
-use Rattle.cm_order.specs.Shells.{place, entry, number_at, relaxed, lowered, with_edge}
+use Rattle.cm_order.specs.inner.Shells.{place, entry, number_at, relaxed, lowered, with_edge}
 use Rattle.cm_order.proofs.Runs.{relaxed_above, relaxed_below, relaxed_in}
 
 pub square_grow : (a b : ℕ) → a < b → a * a + a + a + 1 ≤ b * b
@@ -45,18 +46,25 @@ shell_at old mid new column row m i j by over h by_long by_is over_long over_is 
       rw greatest (elim (cases_order j m) [
         | inl f ↦
             let p_is_m : place i j ≡ m * m + m + 1 + i = p_is ∙ ap (λ n. n * n + n + 1 + i) f in
-            let before : number_at mid (place i j) ≡ number_at old (place i j) = first (place i j) ∙ relaxed_above old (m * m) by (number_at column m) (length by) (place i j) (omega arith) in
+            let before : number_at mid (place i j) ≡ number_at old (place i j) = first (place i j)
+            ∙ relaxed_above old (m * m) by (number_at column m) (length by) (place i j) (omega arith) in
             let back : place i j - (m * m + m + 1) ≡ i = omega arith in
-            rw (eq-eqb j m f) (second (place i j) ∙ relaxed_in mid (m * m + m + 1) over (number_at row m) (length over) (place i j) (omega arith) (omega arith)
-            ∙ rw (before, back, over_is i (omega arith), f) (ap (int_min (entry old i m)) (add_comm_int (number_at row m) (number_at column i))))
+            rw (eq-eqb j m f) (second (place i j) ∙ relaxed_in mid (m * m + m + 1) over (number_at row m)
+            (length over) (place i j) (omega arith) (omega arith)
+            ∙ rw (before, back, over_is i (omega arith), f) (ap (int_min (entry old i m))
+            (add_comm_int (number_at row m) (number_at column i))))
         | inr (inl f) ↦
             let grow : j * j + j + j + 1 ≤ m * m = square_grow j m f in
-            rw (ne_eqb j m (omega arith)) (second (place i j) ∙ relaxed_below mid (m * m + m + 1) over (number_at row m) (length over) (place i j) (omega arith)
-            ∙ first (place i j) ∙ relaxed_below old (m * m) by (number_at column m) (length by) (place i j) (omega arith))
+            rw (ne_eqb j m (omega arith)) (second (place i j) ∙ relaxed_below mid (m * m + m + 1) over
+            (number_at row m) (length over) (place i j) (omega arith)
+            ∙ first (place i j) ∙ relaxed_below old (m * m) by (number_at column m) (length by) (place i j)
+            (omega arith))
         | inr (inr f) ↦
             let grow : m * m + m + m + 1 ≤ j * j = square_grow m j f in
-            rw (ne_eqb j m (omega arith)) (second (place i j) ∙ relaxed_above mid (m * m + m + 1) over (number_at row m) (length over) (place i j) (omega arith)
-            ∙ first (place i j) ∙ relaxed_above old (m * m) by (number_at column m) (length by) (place i j) (omega arith))
+            rw (ne_eqb j m (omega arith)) (second (place i j) ∙ relaxed_above mid (m * m + m + 1) over
+            (number_at row m) (length over) (place i j) (omega arith)
+            ∙ first (place i j) ∙ relaxed_above old (m * m) by (number_at column m) (length by) (place i j)
+            (omega arith))
       ])
   | inr e ↦
       let p_is : place i j ≡ i * i + j = place_lower i j e in
@@ -65,21 +73,28 @@ shell_at old mid new column row m i j by over h by_long by_is over_long over_is 
         | inl f ↦
             let p_is_m : place i j ≡ m * m + j = p_is ∙ ap (λ n. n * n + j) f in
             let back : place i j - m * m ≡ j = omega arith in
-            rw (eq-eqb i m f) (second (place i j) ∙ relaxed_below mid (m * m + m + 1) over (number_at row m) (length over) (place i j) (omega arith)
-            ∙ first (place i j) ∙ relaxed_in old (m * m) by (number_at column m) (length by) (place i j) (omega arith) (omega arith)
+            rw (eq-eqb i m f) (second (place i j) ∙ relaxed_below mid (m * m + m + 1) over (number_at row m)
+            (length over) (place i j) (omega arith)
+            ∙ first (place i j) ∙ relaxed_in old (m * m) by (number_at column m) (length by) (place i j)
+            (omega arith) (omega arith)
             ∙ rw (back, by_is j (omega arith), f) refl)
         | inr (inl f) ↦
             let grow : i * i + i + i + 1 ≤ m * m = square_grow i m f in
-            rw (ne_eqb i m (omega arith)) (second (place i j) ∙ relaxed_below mid (m * m + m + 1) over (number_at row m) (length over) (place i j) (omega arith)
-            ∙ first (place i j) ∙ relaxed_below old (m * m) by (number_at column m) (length by) (place i j) (omega arith))
+            rw (ne_eqb i m (omega arith)) (second (place i j) ∙ relaxed_below mid (m * m + m + 1) over
+            (number_at row m) (length over) (place i j) (omega arith)
+            ∙ first (place i j) ∙ relaxed_below old (m * m) by (number_at column m) (length by) (place i j)
+            (omega arith))
         | inr (inr f) ↦
             let grow : m * m + m + m + 1 ≤ i * i = square_grow m i f in
-            rw (ne_eqb i m (omega arith)) (second (place i j) ∙ relaxed_above mid (m * m + m + 1) over (number_at row m) (length over) (place i j) (omega arith)
-            ∙ first (place i j) ∙ relaxed_above old (m * m) by (number_at column m) (length by) (place i j) (omega arith))
+            rw (ne_eqb i m (omega arith)) (second (place i j) ∙ relaxed_above mid (m * m + m + 1) over
+            (number_at row m) (length over) (place i j) (omega arith)
+            ∙ first (place i j) ∙ relaxed_above old (m * m) by (number_at column m) (length by) (place i j)
+            (omega arith))
       ])
 ]
 
-pub place_in : (n x y : ℕ) (entries : List ℤ) → x < n → y < n → (n + 1) * (n + 1) ≤ length entries → place x y < length entries
+pub place_in : (n x y : ℕ) (entries : List ℤ) → x < n → y < n → (n + 1) * (n + 1) ≤ length entries
+    → place x y < length entries
 place_in n x y entries h k long =
     let within : place x y < n * n = place_within n x y h k in
     let more : n * n ≤ (n + 1) * (n + 1) = mul-le n n (n + 1) (n + 1) (omega arith) (omega arith) in
@@ -97,4 +112,10 @@ pub edge_after : (n : ℕ) (entries cells column row : List ℤ) (x y : ℕ) (mo
 edge_after n entries cells column row x y most xn yn long columns rows lowers i j p q =
     let within : place i j < length cells = let k = place_within n i j p q in omega arith in
     get_or_append_left cells (column ++ row) (pos 0) (place i j) within ∙ lowers i j p q
-    ∙ rw (columns i p, rows j q, entry_front n i j entries p q, entry_front n i x entries p xn, entry_front n y j entries yn q) refl
+    ∙ rw (
+      columns i p,
+      rows j q,
+      entry_front n i j entries p q,
+      entry_front n i x entries p xn,
+      entry_front n y j entries yn q,
+    ) refl

@@ -1,2 +1,2 @@
 pub mod Differences
-pub mod Shells
+pub mod inner

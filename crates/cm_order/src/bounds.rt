@@ -1,8 +1,9 @@
 //! Bounds on the differences of integers.
 
-ghost use Rattle.std.specs.Prelude.{◌≡◌, ◌<◌, ◌+◌, ◌↔◌, ℕ, ℤ, pos, negsuc, ◌+ℤ◌, ◌-ℤ◌, ◌≤ℤ◌, ◌<ℤ◌, IsTrue, IfOk, OnOk, length};
+ghost use Rattle.std.specs.Prelude.{◌≡◌, ◌<◌, ◌+◌, ◌↔◌, ℕ, ℤ, pos, negsuc, ◌+ℤ◌, ◌-ℤ◌, ◌≤ℤ◌, ◌<ℤ◌, IsTrue, IfOk, OnOk};
+ghost use Rattle.std.specs.Prelude.{length};
 ghost use Rattle.cm_order.specs.Differences.{difference, Satisfies, IsSatisfiable, Allows, Keeps, IsLeast};
-ghost use Rattle.cm_order.specs.Shells.{IsClosed};
+ghost use Rattle.cm_order.specs.inner.Shells.{IsClosed};
 
 use crate::shells;
 use cm_model::{IntVar, NoMemory};
@@ -29,7 +30,7 @@ pub struct Bounds {
 
 impl Model for Bounds {
     ghost use Rattle.cm_order.specs.Differences.{Differences};
-    ghost use Rattle.cm_order.specs.Shells.{rows_of, IsProper};
+    ghost use Rattle.cm_order.specs.inner.Shells.{rows_of, IsProper};
 
     ghost Value = { Differences };
 
@@ -58,7 +59,8 @@ impl Bounds {
         requires high { hi ≤ℤ pos 1000000 }
         ensures number { IfOk result (λ x. x.0 ≡ length self.old) }
         ensures count { OnOk result (length self.new ≡ length self.old + 1) }
-        ensures kept { OnOk result (Keeps self.old self.new (λ v. (lo ≤ℤ v (length self.old)) × (v (length self.old) ≤ℤ hi))) }
+        ensures kept { OnOk result (Keeps self.old self.new (λ v. (lo ≤ℤ v (length self.old))
+            × (v (length self.old) ≤ℤ hi))) }
         ensures satisfiable { OnOk result (IsSatisfiable self.new) }
     {
         let number = self.count;

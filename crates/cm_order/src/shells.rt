@@ -1,14 +1,15 @@
 //! A square matrix that grows by one row and one column at a time.
 
-ghost use Rattle.std.specs.Prelude.{◌≡◌, ◌<◌, ◌≤◌, ◌+◌, ◌*◌, ◌^◌, ℕ, ℤ, ◌+ℤ◌, ◌≤ℤ◌, pos, negsuc, length, FitsSigned, if◌then◌else◌, ◌==◌, max, OnOk};
+ghost use Rattle.std.specs.Prelude.{◌≡◌, ◌<◌, ◌≤◌, ◌+◌, ◌*◌, ◌^◌, ℕ, ℤ, ◌+ℤ◌, ◌≤ℤ◌, pos, negsuc, length, FitsSigned};
+ghost use Rattle.std.specs.Prelude.{if◌then◌else◌, ◌==◌, max, OnOk};
 ghost use Rattle.std.specs.Int.{w32, int_min};
-ghost use Rattle.cm_order.specs.Shells.{IsProper, extended, lowered, number_at, relaxed, with_edge};
-ghost use Rattle.cm_order.specs.Shells as shells;
+ghost use Rattle.cm_order.specs.inner.Shells.{IsProper, extended, lowered, number_at, relaxed, with_edge};
+ghost use Rattle.cm_order.specs.inner.Shells as shells;
 
 use cm_model::NoMemory;
 
 /// The place of the difference of `x` and `y`.
-#[tactic(auto, unfolding(crate::specs::Shells::place))]
+#[tactic(auto, unfolding(crate::specs::inner::Shells::place))]
 pub fn place(x: usize, y: usize) -> usize
     requires x { x < 2 ^ 31 }
     requires y { y < 2 ^ 31 }
@@ -45,8 +46,11 @@ fn relax_shell(cells: &mut [i32], column: &[i32], row: &[i32], m: usize)
     requires few { length column.now < 2 ^ 31 }
     requires column { length cells.old ≡ length column.now * length column.now }
     requires row { length column.now ≤ length row.now }
-    requires fits { (i j : ℕ) → i < length column.now → j < length column.now → FitsSigned w32 (number_at column.now i +ℤ number_at row.now j) }
-    ensures { (i j : ℕ) → i < length column.now → j < length column.now → shells.entry cells.new i j ≡ (if max i j == m then lowered (shells.entry cells.old) column.now row.now i j else shells.entry cells.old i j) }
+    requires fits { (i j : ℕ) → i < length column.now → j < length column.now
+        → FitsSigned w32 (number_at column.now i +ℤ number_at row.now j) }
+    ensures { (i j : ℕ) → i < length column.now → j < length column.now
+        → shells.entry cells.new i j ≡ (if max i j == m then lowered (shells.entry cells.old) column.now
+        row.now i j else shells.entry cells.old i j) }
 {
     let start = m * m;
     relax_run(cells, start, &row[..m + 1], column[m]);
@@ -58,8 +62,10 @@ fn relax(cells: &mut [i32], column: &[i32], row: &[i32])
     requires few { length column.now < 2 ^ 31 }
     requires column { length cells.old ≡ length column.now * length column.now }
     requires row { length column.now ≤ length row.now }
-    requires fits { (i j : ℕ) → i < length column.now → j < length column.now → FitsSigned w32 (number_at column.now i +ℤ number_at row.now j) }
-    ensures { (i j : ℕ) → i < length column.now → j < length column.now → shells.entry cells.new i j ≡ lowered (shells.entry cells.old) column.now row.now i j }
+    requires fits { (i j : ℕ) → i < length column.now → j < length column.now
+        → FitsSigned w32 (number_at column.now i +ℤ number_at row.now j) }
+    ensures { (i j : ℕ) → i < length column.now → j < length column.now
+        → shells.entry cells.new i j ≡ lowered (shells.entry cells.old) column.now row.now i j }
 {
     'shells: for m in 0..column.len() {
         relax_shell(cells, column, row, m);
@@ -90,7 +96,8 @@ fn spread(entries: &mut [i32], count: usize, x: usize, y: usize, most: i32)
     requires y { y < count }
     requires low { negsuc 1000000000 ≤ℤ most }
     requires high { most ≤ℤ pos 1000000001 }
-    ensures { (i j : ℕ) → i < count → j < count → shells.entry entries.new i j ≡ with_edge (shells.entry entries.old) x y most i j }
+    ensures { (i j : ℕ) → i < count → j < count → shells.entry entries.new i j ≡ with_edge (shells.entry entries.old)
+        x y most i j }
 {
     let (cells, scratch) = entries.split_at_mut(count * count);
     let (column, row) = scratch.split_at_mut(count);
@@ -105,7 +112,8 @@ pub fn add_edge(entries: &mut [i32], count: usize, x: usize, y: usize, most: i32
     requires y { y < count }
     requires low { negsuc 1000000000 ≤ℤ most }
     requires high { most ≤ℤ pos 1000000001 }
-    ensures { (i j : ℕ) → i < count → j < count → shells.entry entries.new i j ≡ with_edge (shells.entry entries.old) x y most i j }
+    ensures { (i j : ℕ) → i < count → j < count → shells.entry entries.new i j ≡ with_edge (shells.entry entries.old)
+        x y most i j }
 {
     if most < entry(entries, x, y) {
         spread(entries, count, x, y, most);
@@ -118,7 +126,8 @@ pub fn fill_shell(entries: &mut [i32], count: usize, lo: i32, hi: i32)
     requires low { negsuc 999999 ≤ℤ lo }
     requires order { lo ≤ℤ hi }
     requires high { hi ≤ℤ pos 1000000 }
-    ensures { (i j : ℕ) → i ≤ count → j ≤ count → shells.entry entries.new i j ≡ extended count (shells.entry entries.old) lo hi i j }
+    ensures { (i j : ℕ) → i ≤ count → j ≤ count → shells.entry entries.new i j ≡ extended count
+        (shells.entry entries.old) lo hi i j }
 {
     let start = count * count;
     'cells: for k in 0..count {

@@ -6,7 +6,8 @@ use Rattle.cm_eval.specs.State.{Touched}
 use Rattle.cm_eval.specs.Comparison.{comparison}
 use Rattle.cm_eval.specs.Evaluation.{named}
 use Rattle.cm_eval.specs.Run.{Trace, Blocked, Logs, logged, touch_of}
-use Rattle.cm_eval.proofs.Examples.{elem_compared, int_compared, tag_compared, rec_compared, none_compared, some_compared}
+use Rattle.cm_eval.proofs.Examples.{elem_compared, int_compared, tag_compared, rec_compared, none_compared}
+use Rattle.cm_eval.proofs.Examples.{some_compared}
 use Rattle.cm_eval.proofs.Examples.{out_elem, out_int, out_tag, out_rec, out_some}
 
 -- the comparison of two values as a run makes it

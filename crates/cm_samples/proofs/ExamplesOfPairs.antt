@@ -1,5 +1,6 @@
 -- Worked examples of pairs: shape, signature, open prefix, too many paths.
-use Rattle.std.proofs.Common.{◌≡◌, ℕ, zero, suc, ℤ, ap, ◌∙◌, ◌<◌, pos, List, [], ◌∷◌, ◌++◌, get_or, Some, None, refl, arith}
+use Rattle.std.proofs.Common.{◌≡◌, ℕ, zero, suc, ℤ, ap, ◌∙◌, ◌<◌, pos, List, [], ◌∷◌, ◌++◌, get_or, Some, None, refl}
+use Rattle.std.proofs.Common.{arith}
 use Rattle.cm_model.specs.Tables.{Tables}
 use Rattle.cm_model.specs.declared.ty.Ty.{Ty, out-Ty}
 use Rattle.cm_value.proofs.Members.{member-int}
@@ -12,13 +13,16 @@ use Rattle.cm_eval.proofs.Examples.{out_elem, out_tag, elem_compared}
 use Rattle.cm_eval.proofs.Examples as examples
 use Rattle.cm_samples.specs.Examples.{pair, world}
 use Rattle.cm_world.specs.Path.{path_of_world}
-use Rattle.cm_world.specs.Shape.{shape_of, Signature, signature_of, Mark, Number, Marked, marks_of, mark_step, element_of}
+use Rattle.cm_world.specs.Shape.{shape_of, Signature, signature_of, Mark, Number, Marked, marks_of, mark_step}
+use Rattle.cm_world.specs.Shape.{element_of}
 use Rattle.cm_world.specs.World.{IsWorldOf, IsStateOf}
 use Rattle.cm_world.specs.Over.{IsPath, AreDistinct, TooManyPaths}
 use Rattle.cm_world.specs.OpenPrefix.{IsOpenPrefix}
 use Rattle.cm_samples.specs.Counters.{inc_tables}
 use Rattle.cm_samples.specs.Flags.{open_tables}
-use Rattle.cm_samples.proofs.Meanings.{means-num, means-tag, means-local, means-whole, means-read, means-shift, means-into, means-compare, means-not, turns-let, turns-set, turns-assume, turns-return, same-elem}
+use Rattle.cm_samples.proofs.Meanings.{means-num, means-tag, means-local, means-whole, means-read, means-shift}
+use Rattle.cm_samples.proofs.Meanings.{means-into, means-compare, means-not, turns-let, turns-set, turns-assume}
+use Rattle.cm_samples.proofs.Meanings.{turns-return, same-elem}
 
 -- the marks of a value by its form
 marks-elem : (t : Tables) (u : Ty) (n : ℕ) → marks_of t (value.Elem n) u ≡ element_of (out-Ty u) n
@@ -31,22 +35,53 @@ marks-tag : (t : Tables) (u : Ty) (n : ℕ) → marks_of t (value.Tag n) u ≡ N
 marks-tag t u n = ap (λ (m : Marked). m u) (fold-tag (mark_step t) n)
 
 -- both descriptors are the first element that appears
-pub open_shape : shape_of open_tables (pair 0 0) (world (store (value.Tag 0 ∷ []) []) (value.Elem 7 ∷ []) (value.Elem 7 ∷ [])) ≡ 0 ∷ 0 ∷ []
+pub open_shape : shape_of open_tables (pair 0 0) (world (store (value.Tag 0 ∷ []) []) (value.Elem 7 ∷ [])
+    (value.Elem 7 ∷ [])) ≡ 0 ∷ 0 ∷ []
 unfolding open_tables
-open_shape = simp (turns-assume, turns-set, turns-return, means-not, means-read, means-local, means-tag, elem_compared, same-elem, out_elem, out_tag, marks-elem, marks-tag, out_sort)
+open_shape = simp (
+  turns-assume,
+  turns-set,
+  turns-return,
+  means-not,
+  means-read,
+  means-local,
+  means-tag,
+  elem_compared,
+  same-elem,
+  out_elem,
+  out_tag,
+  marks-elem,
+  marks-tag,
+  out_sort,
+)
 
-open_path : path_of_world open_tables (pair 0 0) (world (store (value.Tag 0 ∷ []) []) (value.Elem 7 ∷ []) (value.Elem 7 ∷ [])) ≡ 0 ∷ 1 ∷ 0 ∷ 0 ∷ 1 ∷ 0 ∷ []
+open_path : path_of_world open_tables (pair 0 0) (world (store (value.Tag 0 ∷ []) []) (value.Elem 7 ∷ [])
+    (value.Elem 7 ∷ [])) ≡ 0 ∷ 1 ∷ 0 ∷ 0 ∷ 1 ∷ 0 ∷ []
 unfolding open_tables
-open_path = simp (turns-assume, turns-set, turns-return, means-not, means-read, means-local, means-tag, elem_compared, same-elem, out_elem, out_tag)
+open_path = simp (
+  turns-assume,
+  turns-set,
+  turns-return,
+  means-not,
+  means-read,
+  means-local,
+  means-tag,
+  elem_compared,
+  same-elem,
+  out_elem,
+  out_tag,
+)
 
 abbrev signature : List ℕ → List ℕ → Signature
 signature path shape = record { path = path; shape = shape }
 
 -- the path with the shape
-pub open_signature : signature_of open_tables (pair 0 0) (world (store (value.Tag 0 ∷ []) []) (value.Elem 7 ∷ []) (value.Elem 7 ∷ []))
+pub open_signature : signature_of open_tables (pair 0 0) (world (store (value.Tag 0 ∷ []) []) (value.Elem 7 ∷ [])
+    (value.Elem 7 ∷ []))
     ≡ record { path = 0 ∷ 1 ∷ 0 ∷ 0 ∷ 1 ∷ 0 ∷ []; shape = 0 ∷ 0 ∷ [] }
 open_signature =
-    ap (λ path. signature path (shape_of open_tables (pair 0 0) (world (store (value.Tag 0 ∷ []) []) (value.Elem 7 ∷ []) (value.Elem 7 ∷ [])))) open_path
+    ap (λ path. signature path (shape_of open_tables (pair 0 0) (world (store (value.Tag 0 ∷ []) [])
+    (value.Elem 7 ∷ []) (value.Elem 7 ∷ [])))) open_path
     ∙ ap (signature (0 ∷ 1 ∷ 0 ∷ 0 ∷ 1 ∷ 0 ∷ [])) open_shape
 
 inc_at_3 : path_of_world inc_tables (pair 0 0) (world (store (value.Int (pos 3) ∷ []) []) [] []) ≡ 2 ∷ []

@@ -1,5 +1,6 @@
 -- The values of a function at the first numbers.
-use Rattle.std.proofs.Common.{◌≡◌, ℕ, zero, suc, ◌+◌, ◌<◌, Bool, true, List, [], ◌∷◌, ◌++◌, length, slice_get, Some, sym, refl, ap, ◌∙◌, subst, length-append, eq-or-lt_of_le, inl, inr, ◌⊎◌, add-one, arith}
+use Rattle.std.proofs.Common.{◌≡◌, ℕ, zero, suc, ◌+◌, ◌<◌, Bool, true, List, [], ◌∷◌, ◌++◌, length, slice_get, Some}
+use Rattle.std.proofs.Common.{sym, refl, ap, ◌∙◌, subst, length-append, eq-or-lt_of_le, inl, inr, ◌⊎◌, add-one, arith}
 use Rattle.std.specs.Cmp.Derive.{both_true}
 use Rattle.std.proofs.lemmas.Bool.{and_parts}
 use Rattle.cm_model.specs.WellTyped.{each_from}
@@ -14,7 +15,8 @@ before_end [] y i lt = absurd (omega (arith, lt))
 before_end (x ∷ xs) y zero lt = refl
 before_end (x ∷ xs) y (suc i) lt = before_end xs y i (omega (arith, lt))
 
-each_end : {X : Type 0} (p : ℕ → X → Bool) (k n : ℕ) (xs : List X) (y : X) → n ≡ k + length xs → each_from p k xs ≡ true → p n y ≡ true
+each_end : {X : Type 0} (p : ℕ → X → Bool) (k n : ℕ) (xs : List X) (y : X) → n ≡ k + length xs → each_from p k xs ≡ true
+    → p n y ≡ true
     → each_from p k (xs ++ y ∷ []) ≡ true
 each_end p k n [] y is all one = both_true (subst (λ i. p i y ≡ true) (omega (arith, is)) one) refl
 each_end p k n (x ∷ xs) y is all one =
@@ -30,11 +32,13 @@ module _ {X : Type 0} (f : ℕ → X) where
       let more = length-append (firsts f n) (f n ∷ []) in
       omega (arith, before, more)
 
-  at_either : (n i : ℕ) → (i < n → slice_get (firsts f n) i ≡ Some (f i)) → (i ≡ n) ⊎ (i < n) → slice_get (firsts f n ++ f n ∷ []) i ≡ Some (f i)
+  at_either : (n i : ℕ) → (i < n → slice_get (firsts f n) i ≡ Some (f i)) → (i ≡ n) ⊎ (i < n)
+      → slice_get (firsts f n ++ f n ∷ []) i ≡ Some (f i)
   at_either n i before (inl is) =
       subst (λ k. slice_get (firsts f n ++ f n ∷ []) k ≡ Some (f k)) (sym is)
       (subst (λ k. slice_get (firsts f n ++ f n ∷ []) k ≡ Some (f n)) (length-firsts n) (at_end (firsts f n) (f n)))
-  at_either n i before (inr lt) = before_end (firsts f n) (f n) i (subst (λ k. i < k) (sym (length-firsts n)) lt) ∙ before lt
+  at_either n i before (inr lt) = before_end (firsts f n) (f n) i (subst (λ k. i < k) (sym (length-firsts n)) lt)
+      ∙ before lt
 
   pub firsts_at : (n i : ℕ) → i < n → slice_get (firsts f n) i ≡ Some (f i)
   unfolding firsts
@@ -46,7 +50,8 @@ module _ {X : Type 0} (f : ℕ → X) where
   each_first p zero all = refl
   each_first p (suc n) all =
       let len = length-firsts n in
-      each_end p 0 n (firsts f n) (f n) (omega (arith, len)) (each_first p n (λ i lt. all i (omega (arith, lt)))) (all n (omega arith))
+      each_end p 0 n (firsts f n) (f n) (omega (arith, len)) (each_first p n (λ i lt. all i (omega (arith, lt))))
+      (all n (omega arith))
 
   pub firsts-none : firsts f 0 ≡ []
   unfolding firsts

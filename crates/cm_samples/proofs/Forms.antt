@@ -6,7 +6,8 @@ use Rattle.cm_model.specs.declared.ty.Ty.TheOpen.{Ty-F}
 use Rattle.cm_model.specs.Types.{same_ty, same_step}
 use Rattle.cm_value.proofs.Types.{fold-sort, fold-int_type, fold-enum, fold-record, fold-option}
 use Rattle.cm_model.specs.declared.body.Op.{Op}
-use Rattle.cm_model.specs.declared.body.SetField.{SetField, fold-SetField, out-SetField, roll-out-SetField, fold-roll-SetField}
+use Rattle.cm_model.specs.declared.body.SetField.{SetField, fold-SetField, out-SetField, roll-out-SetField}
+use Rattle.cm_model.specs.declared.body.SetField.{fold-roll-SetField}
 use Rattle.cm_model.specs.declared.body.Expr.{Expr}
 use Rattle.cm_model.specs.declared.body.Expr.TheVariants as expr
 use Rattle.cm_model.specs.declared.body.Expr.TheOpen.{Expr-F, SetField-F}
@@ -29,16 +30,22 @@ module _ {A B : Type 0} (f : Expr-F A B → A) (g : SetField-F A B → B) where
   pub fold-whole : (s : ℕ) → fold-Expr A B f g (expr.Cell s None) ≡ f (Expr-F.Cell s None)
   fold-whole s = ap (fold-Expr A B f g) (sym (expr.rolls-Cell s None)) ∙ fold-roll-Expr A B f g (Expr-F.Cell s None)
 
-  pub fold-read : (s : ℕ) (e : Expr) → fold-Expr A B f g (expr.Cell s (Some e)) ≡ f (Expr-F.Cell s (Some (fold-Expr A B f g e)))
-  fold-read s e = ap (fold-Expr A B f g) (sym (expr.rolls-Cell s (Some e))) ∙ fold-roll-Expr A B f g (Expr-F.Cell s (Some e))
+  pub fold-read : (s : ℕ) (e : Expr) → fold-Expr A B f g (expr.Cell s (Some e))
+      ≡ f (Expr-F.Cell s (Some (fold-Expr A B f g e)))
+  fold-read s e = ap (fold-Expr A B f g) (sym (expr.rolls-Cell s (Some e))) ∙ fold-roll-Expr A B f g
+      (Expr-F.Cell s (Some e))
 
-  pub fold-fields : (e : Expr) (path : List ℕ) → fold-Expr A B f g (expr.Fields e path) ≡ f (Expr-F.Fields (fold-Expr A B f g e) path)
-  fold-fields e path = ap (fold-Expr A B f g) (sym (expr.rolls-Fields e path)) ∙ fold-roll-Expr A B f g (Expr-F.Fields e path)
+  pub fold-fields : (e : Expr) (path : List ℕ) → fold-Expr A B f g (expr.Fields e path)
+      ≡ f (Expr-F.Fields (fold-Expr A B f g e) path)
+  fold-fields e path = ap (fold-Expr A B f g) (sym (expr.rolls-Fields e path))
+      ∙ fold-roll-Expr A B f g (Expr-F.Fields e path)
 
-  pub fold-with : (e : Expr) (sets : List SetField) → fold-Expr A B f g (expr.With e sets) ≡ f (Expr-F.With (fold-Expr A B f g e) (map (fold-SetField A B f g) sets))
+  pub fold-with : (e : Expr) (sets : List SetField) → fold-Expr A B f g (expr.With e sets)
+      ≡ f (Expr-F.With (fold-Expr A B f g e) (map (fold-SetField A B f g) sets))
   fold-with e sets = ap (fold-Expr A B f g) (sym (expr.rolls-With e sets)) ∙ fold-roll-Expr A B f g (Expr-F.With e sets)
 
-  pub fold-make : (r : ℕ) (es : List Expr) → fold-Expr A B f g (expr.Make r es) ≡ f (Expr-F.Make r (map (fold-Expr A B f g) es))
+  pub fold-make : (r : ℕ) (es : List Expr) → fold-Expr A B f g (expr.Make r es)
+      ≡ f (Expr-F.Make r (map (fold-Expr A B f g) es))
   fold-make r es = ap (fold-Expr A B f g) (sym (expr.rolls-Make r es)) ∙ fold-roll-Expr A B f g (Expr-F.Make r es)
 
   pub fold-none : (t : Ty) → fold-Expr A B f g (expr.NoneOf t) ≡ f (Expr-F.NoneOf t)
@@ -53,8 +60,10 @@ module _ {A B : Type 0} (f : Expr-F A B → A) (g : SetField-F A B → B) where
   pub fold-into : (i : ℕ) (e : Expr) → fold-Expr A B f g (expr.Into i e) ≡ f (Expr-F.Into i (fold-Expr A B f g e))
   fold-into i e = ap (fold-Expr A B f g) (sym (expr.rolls-Into i e)) ∙ fold-roll-Expr A B f g (Expr-F.Into i e)
 
-  pub fold-compare : (o : Op) (x y : Expr) → fold-Expr A B f g (expr.Compare o x y) ≡ f (Expr-F.Compare o (fold-Expr A B f g x) (fold-Expr A B f g y))
-  fold-compare o x y = ap (fold-Expr A B f g) (sym (expr.rolls-Compare o x y)) ∙ fold-roll-Expr A B f g (Expr-F.Compare o x y)
+  pub fold-compare : (o : Op) (x y : Expr) → fold-Expr A B f g (expr.Compare o x y)
+      ≡ f (Expr-F.Compare o (fold-Expr A B f g x) (fold-Expr A B f g y))
+  fold-compare o x y = ap (fold-Expr A B f g) (sym (expr.rolls-Compare o x y))
+      ∙ fold-roll-Expr A B f g (Expr-F.Compare o x y)
 
   pub fold-all : (es : List Expr) → fold-Expr A B f g (expr.All es) ≡ f (Expr-F.All (map (fold-Expr A B f g) es))
   fold-all es = ap (fold-Expr A B f g) (sym (expr.rolls-All es)) ∙ fold-roll-Expr A B f g (Expr-F.All es)
@@ -65,12 +74,15 @@ module _ {A B : Type 0} (f : Expr-F A B → A) (g : SetField-F A B → B) where
   pub fold-not : (e : Expr) → fold-Expr A B f g (expr.Not e) ≡ f (Expr-F.Not (fold-Expr A B f g e))
   fold-not e = ap (fold-Expr A B f g) (sym (expr.rolls-Not e)) ∙ fold-roll-Expr A B f g (Expr-F.Not e)
 
-  pub fold-apply : (i : ℕ) (es : List Expr) → fold-Expr A B f g (expr.Apply i es) ≡ f (Expr-F.Apply i (map (fold-Expr A B f g) es))
+  pub fold-apply : (i : ℕ) (es : List Expr) → fold-Expr A B f g (expr.Apply i es)
+      ≡ f (Expr-F.Apply i (map (fold-Expr A B f g) es))
   fold-apply i es = ap (fold-Expr A B f g) (sym (expr.rolls-Apply i es)) ∙ fold-roll-Expr A B f g (Expr-F.Apply i es)
 
   -- a field that is set
-  pub fold-field : (i : ℕ) (e : Expr) → fold-SetField A B f g (record { field = i; value = e }) ≡ g (record { field = i; value = fold-Expr A B f g e })
-  fold-field i e = ap (fold-SetField A B f g) (sym (roll-out-SetField (record { field = i; value = e }))) ∙ fold-roll-SetField A B f g (out-SetField (record { field = i; value = e }))
+  pub fold-field : (i : ℕ) (e : Expr) → fold-SetField A B f g (record { field = i; value = e })
+      ≡ g (record { field = i; value = fold-Expr A B f g e })
+  fold-field i e = ap (fold-SetField A B f g) (sym (roll-out-SetField (record { field = i; value = e })))
+      ∙ fold-roll-SetField A B f g (out-SetField (record { field = i; value = e }))
 
 module _ {A : Type 0} (f : Stmt-F A → A) where
   pub fold-let : (e : Expr) → fold-Stmt A f (stmt.Let e) ≡ f (Stmt-F.Let e)
@@ -79,10 +91,12 @@ module _ {A : Type 0} (f : Stmt-F A → A) where
   pub fold-set : (s : ℕ) (key : Option Expr) (e : Expr) → fold-Stmt A f (stmt.Set s key e) ≡ f (Stmt-F.Set s key e)
   fold-set s key e = ap (fold-Stmt A f) (sym (stmt.rolls-Set s key e)) ∙ fold-roll-Stmt A f (Stmt-F.Set s key e)
 
-  pub fold-if : (e : Expr) (xs ys : List Stmt) → fold-Stmt A f (stmt.If e xs ys) ≡ f (Stmt-F.If e (map (fold-Stmt A f) xs) (map (fold-Stmt A f) ys))
+  pub fold-if : (e : Expr) (xs ys : List Stmt) → fold-Stmt A f (stmt.If e xs ys)
+      ≡ f (Stmt-F.If e (map (fold-Stmt A f) xs) (map (fold-Stmt A f) ys))
   fold-if e xs ys = ap (fold-Stmt A f) (sym (stmt.rolls-If e xs ys)) ∙ fold-roll-Stmt A f (Stmt-F.If e xs ys)
 
-  pub fold-case : (e : Expr) (xs ys : List Stmt) → fold-Stmt A f (stmt.Case e xs ys) ≡ f (Stmt-F.Case e (map (fold-Stmt A f) xs) (map (fold-Stmt A f) ys))
+  pub fold-case : (e : Expr) (xs ys : List Stmt) → fold-Stmt A f (stmt.Case e xs ys)
+      ≡ f (Stmt-F.Case e (map (fold-Stmt A f) xs) (map (fold-Stmt A f) ys))
   fold-case e xs ys = ap (fold-Stmt A f) (sym (stmt.rolls-Case e xs ys)) ∙ fold-roll-Stmt A f (Stmt-F.Case e xs ys)
 
   pub fold-assume : (e : Expr) → fold-Stmt A f (stmt.Assume e) ≡ f (Stmt-F.Assume e)
@@ -99,13 +113,16 @@ module _ {A X : Type 0} (f : Stmt-F (X → A) → X → A) where
   pub let-at : (e : Expr) (x : X) → fold-Stmt (X → A) f (stmt.Let e) x ≡ f (Stmt-F.Let e) x
   let-at e x = ap (λ m. m x) (fold-let f e)
 
-  pub set-at : (s : ℕ) (key : Option Expr) (e : Expr) (x : X) → fold-Stmt (X → A) f (stmt.Set s key e) x ≡ f (Stmt-F.Set s key e) x
+  pub set-at : (s : ℕ) (key : Option Expr) (e : Expr) (x : X) → fold-Stmt (X → A) f (stmt.Set s key e) x
+      ≡ f (Stmt-F.Set s key e) x
   set-at s key e x = ap (λ m. m x) (fold-set f s key e)
 
-  pub if-at : (e : Expr) (xs ys : List Stmt) (x : X) → fold-Stmt (X → A) f (stmt.If e xs ys) x ≡ f (Stmt-F.If e (map folded xs) (map folded ys)) x
+  pub if-at : (e : Expr) (xs ys : List Stmt) (x : X) → fold-Stmt (X → A) f (stmt.If e xs ys) x
+      ≡ f (Stmt-F.If e (map folded xs) (map folded ys)) x
   if-at e xs ys x = ap (λ m. m x) (fold-if f e xs ys)
 
-  pub case-at : (e : Expr) (xs ys : List Stmt) (x : X) → fold-Stmt (X → A) f (stmt.Case e xs ys) x ≡ f (Stmt-F.Case e (map folded xs) (map folded ys)) x
+  pub case-at : (e : Expr) (xs ys : List Stmt) (x : X) → fold-Stmt (X → A) f (stmt.Case e xs ys) x
+      ≡ f (Stmt-F.Case e (map folded xs) (map folded ys)) x
   case-at e xs ys x = ap (λ m. m x) (fold-case f e xs ys)
 
   pub assume-at : (e : Expr) (x : X) → fold-Stmt (X → A) f (stmt.Assume e) x ≡ f (Stmt-F.Assume e) x

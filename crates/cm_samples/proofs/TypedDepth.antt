@@ -1,11 +1,13 @@
 -- The tables of the deepest functions are well typed.
-use Rattle.std.proofs.Common.{◌≡◌, ℕ, zero, suc, ◌+◌, ◌*◌, ◌<◌, ◌≤◌, leb, true, List, [], ◌∷◌, ◌++◌, Option, Some, is_some, sym, refl, ap, ◌∙◌, subst, le-leb, lt-ltb, zero-add, codes, arith}
+use Rattle.std.proofs.Common.{◌≡◌, ℕ, zero, suc, ◌+◌, ◌*◌, ◌<◌, ◌≤◌, leb, true, List, [], ◌∷◌, ◌++◌, Option, Some}
+use Rattle.std.proofs.Common.{is_some, sym, refl, ap, ◌∙◌, subst, le-leb, lt-ltb, zero-add, codes, arith}
 use Rattle.std.specs.Cmp.Derive.{both_true}
 use Rattle.cm_model.specs.Tables.{Tables}
 use Rattle.cm_model.specs.Types.{same_ty, same_step, is_type_in_use, or_else}
 use Rattle.cm_model.specs.Kinds.{Of, Scope, scope, given, if_so, is_of, bool_ty, kind_step, set_step, kind_of}
 use Rattle.cm_model.specs.Blocks.{block_typing, stmt_step, is_body, always_returns}
-use Rattle.cm_model.specs.Weights.{expr_weight, expr_weight_step, stmt_weight_step, body_weight, weights_from, fun_weights, greatest, shifts_of, shifts_step, stmt_shifts_step, body_shifts}
+use Rattle.cm_model.specs.Weights.{expr_weight, expr_weight_step, stmt_weight_step, body_weight, weights_from}
+use Rattle.cm_model.specs.Weights.{fun_weights, greatest, shifts_of, shifts_step, stmt_shifts_step, body_shifts}
 use Rattle.cm_model.specs.WellTyped.{IsWellTyped, is_call, is_fun}
 use Rattle.cm_model.specs.declared.ty.Ty.TheOpen.{Ty-F}
 use Rattle.cm_model.specs.declared.body.Expr.{Expr}
@@ -22,11 +24,13 @@ same_bool : same_ty bool_ty bool_ty ≡ true
 same_bool = same-enum 0 bool_ty ∙ ap (same_step (Ty-F.Enum 0)) (out_enum 0)
 
 -- negations of a bool are a bool
-negations_kind : (s : Scope) (n : ℕ) (e : Expr) → kind_of s e ≡ Some (Of bool_ty) → kind_of s (negations n e) ≡ Some (Of bool_ty)
+negations_kind : (s : Scope) (n : ℕ) (e : Expr) → kind_of s e ≡ Some (Of bool_ty)
+    → kind_of s (negations n e) ≡ Some (Of bool_ty)
 unfolding negations
 negations_kind s zero e is = is
 negations_kind s (suc n) e is =
-    fold-not (kind_step s) set_step (negations n e) ∙ ap (λ k. kind_step s (Expr-F.Not k)) (negations_kind s n e is) ∙ ap (λ b. if_so b (Of bool_ty)) same_bool
+    fold-not (kind_step s) set_step (negations n e) ∙ ap (λ k. kind_step s (Expr-F.Not k)) (negations_kind s n e is)
+    ∙ ap (λ b. if_so b (Of bool_ty)) same_bool
 
 -- each of them is one node more
 negations_weight : (funs : List ℕ) (n : ℕ) (e : Expr) → expr_weight funs (negations n e) ≡ n + expr_weight funs e
@@ -54,7 +58,8 @@ weight n = 64 * suc n
 innermost_weight : (m n : ℕ) → n ≤ m → expr_weight (firsts weight m) (innermost n) ≡ 1 + 64 * n
 innermost_weight m zero le = fold-tag (expr_weight_step (firsts weight m)) (λ x. x.value) 0 1
 innermost_weight m (suc n) le =
-    fold-apply (expr_weight_step (firsts weight m)) (λ x. x.value) n [] ∙ ap (λ w. 1 + or_else 0 w) (firsts_at weight m n (omega (arith, le)))
+    fold-apply (expr_weight_step (firsts weight m)) (λ x. x.value) n [] ∙ ap (λ w. 1 + or_else 0 w)
+    (firsts_at weight m n (omega (arith, le)))
 
 return_weight : (funs : List ℕ) (e : Expr) → body_weight funs (stmt.Return e ∷ []) ≡ 1 + expr_weight funs e
 return_weight funs e =
@@ -69,7 +74,8 @@ fun_weight m n le =
     omega (arith, whole, around, inside)
 
 weights_end : (before : List ℕ) (funs : List Call) (f : Call)
-    → weights_from before (funs ++ f ∷ []) ≡ weights_from before funs ++ body_weight (weights_from before funs) f.body ∷ []
+    → weights_from before (funs ++ f ∷ []) ≡ weights_from before funs ++ body_weight (weights_from before funs) f.body
+    ∷ []
 weights_end before [] f = refl
 weights_end before (g ∷ funs) f = weights_end (before ++ body_weight before g.body ∷ []) funs f
 
@@ -120,14 +126,16 @@ fun_typed : (n : ℕ) → n < 64 → is_fun deepest_tables n (deep_fun n) ≡ tr
 fun_typed n lt =
     routine_typed deepest_tables n (fun_name n) (negations 62 (innermost n)) bool_used
     (negations_kind (scope deepest_tables n []) 62 (innermost n) (innermost_kind n (omega (arith, lt))))
-    (subst (λ (ws : List ℕ). body_weight ws (deep_fun n).body ≤ 100000) (sym all_weights) (let w = fun_weight 64 n (omega (arith, lt)) in omega (arith, w, lt)))
+    (subst (λ (ws : List ℕ). body_weight ws (deep_fun n).body ≤ 100000) (sym all_weights) (let w =
+    fun_weight 64 n (omega (arith, lt)) in omega (arith, w, lt)))
     (negations_shifts 62 (innermost n) ∙ innermost_shifts n)
 
 run_typed : is_call deepest_tables 64 run_call ≡ true
 run_typed =
     routine_typed deepest_tables 64 (codes "run") (innermost 64) bool_used (innermost_kind 64 (omega arith))
     (subst (λ (ws : List ℕ). body_weight ws run_call.body ≤ 100000) (sym all_weights)
-    (let one = return_weight (firsts weight 64) (innermost 64) in let inside = innermost_weight 64 64 (omega arith) in omega (arith, one, inside)))
+    (let one = return_weight (firsts weight 64) (innermost 64) in let inside = innermost_weight 64 64 (omega arith) in
+    omega (arith, one, inside)))
     (innermost_shifts 64)
 
 pub deepest_is_well_typed : IsWellTyped deepest_tables

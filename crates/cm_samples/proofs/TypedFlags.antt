@@ -3,7 +3,8 @@ use Rattle.std.proofs.Common.{refl, arith}
 use Rattle.cm_model.specs.WellTyped.{IsWellTyped}
 use Rattle.cm_value.proofs.Types.{out_sort, out_enum, fold-sort, fold-enum}
 use Rattle.cm_samples.specs.Flags.{open_tables, fire_tables, unset_tables}
-use Rattle.cm_samples.proofs.Forms.{fold-tag, fold-local, fold-whole, fold-read, fold-not, fold-set, fold-if, fold-assume, fold-return, set-at, if-at, assume-at, return-at, same-sort, same-enum}
+use Rattle.cm_samples.proofs.Forms.{fold-tag, fold-local, fold-whole, fold-read, fold-not, fold-set, fold-if}
+use Rattle.cm_samples.proofs.Forms.{fold-assume, fold-return, set-at, if-at, assume-at, return-at, same-sort, same-enum}
 
 pub open_is_well_typed : IsWellTyped open_tables
 unfolding open_tables
@@ -23,7 +24,24 @@ open_is_well_typed = record {
   fields = refl;
   cells = simp (fold-sort, fold-enum);
   functions = refl;
-  bodies = simp (assume-at, fold-assume, set-at, return-at, fold-set, fold-return, fold-tag, fold-not, fold-read, fold-local, same-sort, same-enum, out_sort, out_enum, fold-sort, fold-enum);
+  bodies = simp (
+    assume-at,
+    fold-assume,
+    set-at,
+    return-at,
+    fold-set,
+    fold-return,
+    fold-tag,
+    fold-not,
+    fold-read,
+    fold-local,
+    same-sort,
+    same-enum,
+    out_sort,
+    out_enum,
+    fold-sort,
+    fold-enum,
+  );
 }
 
 pub fire_is_well_typed : IsWellTyped fire_tables
@@ -44,7 +62,19 @@ fire_is_well_typed = record {
   fields = refl;
   cells = simp (fold-enum);
   functions = refl;
-  bodies = simp (if-at, fold-if, set-at, return-at, fold-set, fold-return, fold-tag, fold-whole, same-enum, out_enum, fold-enum);
+  bodies = simp (
+    if-at,
+    fold-if,
+    set-at,
+    return-at,
+    fold-set,
+    fold-return,
+    fold-tag,
+    fold-whole,
+    same-enum,
+    out_enum,
+    fold-enum,
+  );
 }
 
 pub unset_is_well_typed : IsWellTyped unset_tables
@@ -65,5 +95,18 @@ unset_is_well_typed = record {
   fields = refl;
   cells = simp (fold-not, fold-local, same-enum, out_enum, fold-sort, fold-enum);
   functions = refl;
-  bodies = simp (set-at, return-at, fold-set, fold-return, fold-tag, fold-local, same-sort, same-enum, out_sort, out_enum, fold-sort, fold-enum);
+  bodies = simp (
+    set-at,
+    return-at,
+    fold-set,
+    fold-return,
+    fold-tag,
+    fold-local,
+    same-sort,
+    same-enum,
+    out_sort,
+    out_enum,
+    fold-sort,
+    fold-enum,
+  );
 }

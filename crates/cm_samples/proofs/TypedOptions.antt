@@ -3,7 +3,8 @@ use Rattle.std.proofs.Common.{refl, arith}
 use Rattle.cm_model.specs.WellTyped.{IsWellTyped}
 use Rattle.cm_value.proofs.Types.{out_sort, out_enum, out_option, fold-sort, fold-enum, fold-option}
 use Rattle.cm_samples.specs.Options.{payloads_tables}
-use Rattle.cm_samples.proofs.Forms.{fold-local, fold-whole, fold-compare, fold-case, fold-return, case-at, return-at, same-sort, same-enum, same-option}
+use Rattle.cm_samples.proofs.Forms.{fold-local, fold-whole, fold-compare, fold-case, fold-return, case-at, return-at}
+use Rattle.cm_samples.proofs.Forms.{same-sort, same-enum, same-option}
 
 pub payloads_is_well_typed : IsWellTyped payloads_tables
 unfolding payloads_tables
@@ -23,5 +24,21 @@ payloads_is_well_typed = record {
   fields = refl;
   cells = simp (fold-sort, fold-option);
   functions = refl;
-  bodies = simp (case-at, fold-case, return-at, fold-return, fold-compare, fold-local, fold-whole, same-sort, same-enum, same-option, out_sort, out_enum, out_option, fold-sort, fold-enum);
+  bodies = simp (
+    case-at,
+    fold-case,
+    return-at,
+    fold-return,
+    fold-compare,
+    fold-local,
+    fold-whole,
+    same-sort,
+    same-enum,
+    same-option,
+    out_sort,
+    out_enum,
+    out_option,
+    fold-sort,
+    fold-enum,
+  );
 }

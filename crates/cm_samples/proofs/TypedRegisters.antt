@@ -3,7 +3,8 @@ use Rattle.std.proofs.Common.{refl, arith}
 use Rattle.cm_model.specs.WellTyped.{IsWellTyped}
 use Rattle.cm_value.proofs.Types.{out_sort, out_enum, out_option, fold-sort, fold-enum, fold-option}
 use Rattle.cm_samples.specs.Registers.{reg_tables, map_tables, opt_tables}
-use Rattle.cm_samples.proofs.Forms.{fold-tag, fold-local, fold-whole, fold-some, fold-set, fold-return, set-at, return-at, same-sort, same-enum, same-option}
+use Rattle.cm_samples.proofs.Forms.{fold-tag, fold-local, fold-whole, fold-some, fold-set, fold-return, set-at}
+use Rattle.cm_samples.proofs.Forms.{return-at, same-sort, same-enum, same-option}
 
 pub reg_is_well_typed : IsWellTyped reg_tables
 unfolding reg_tables
@@ -23,7 +24,21 @@ reg_is_well_typed = record {
   fields = refl;
   cells = simp (fold-sort);
   functions = refl;
-  bodies = simp (set-at, return-at, fold-set, fold-return, fold-tag, fold-whole, fold-local, same-sort, same-enum, out_sort, out_enum, fold-sort, fold-enum);
+  bodies = simp (
+    set-at,
+    return-at,
+    fold-set,
+    fold-return,
+    fold-tag,
+    fold-whole,
+    fold-local,
+    same-sort,
+    same-enum,
+    out_sort,
+    out_enum,
+    fold-sort,
+    fold-enum,
+  );
 }
 
 pub map_is_well_typed : IsWellTyped map_tables
@@ -44,7 +59,20 @@ map_is_well_typed = record {
   fields = refl;
   cells = simp (fold-sort);
   functions = refl;
-  bodies = simp (set-at, return-at, fold-set, fold-return, fold-tag, fold-local, same-sort, same-enum, out_sort, out_enum, fold-sort, fold-enum);
+  bodies = simp (
+    set-at,
+    return-at,
+    fold-set,
+    fold-return,
+    fold-tag,
+    fold-local,
+    same-sort,
+    same-enum,
+    out_sort,
+    out_enum,
+    fold-sort,
+    fold-enum,
+  );
 }
 
 pub opt_is_well_typed : IsWellTyped opt_tables
@@ -65,5 +93,22 @@ opt_is_well_typed = record {
   fields = refl;
   cells = simp (fold-sort, fold-option);
   functions = refl;
-  bodies = simp (set-at, return-at, fold-set, fold-return, fold-tag, fold-some, fold-local, same-sort, same-option, same-enum, out_sort, out_enum, out_option, fold-sort, fold-enum, fold-option);
+  bodies = simp (
+    set-at,
+    return-at,
+    fold-set,
+    fold-return,
+    fold-tag,
+    fold-some,
+    fold-local,
+    same-sort,
+    same-option,
+    same-enum,
+    out_sort,
+    out_enum,
+    out_option,
+    fold-sort,
+    fold-enum,
+    fold-option,
+  );
 }

@@ -29,7 +29,8 @@ inc_tables = tables [] (counter ∷ []) (bool_enum ∷ []) [] (cell (codes "n") 
 
 -- call next() -> C { let o = n; n = C(n + 1); return o; }
 abbrev pub next_call : Call
-next_call = routine (codes "next") [] 0 (ty.Int 0) (stmt.Let (expr.Cell 0 None) ∷ count_on ∷ stmt.Return (expr.Local 0) ∷ [])
+next_call = routine (codes "next") [] 0 (ty.Int 0) (stmt.Let (expr.Cell 0 None) ∷ count_on ∷ stmt.Return (expr.Local 0)
+    ∷ [])
 
 -- int C 0..3; state n: C; and the call
 unfoldable pub next_tables : Tables
@@ -41,7 +42,8 @@ at_most_two = expr.Compare op.Le (expr.Local 0) (expr.Num (pos 2))
 
 -- int C 0..3; state n: C where it <= 2; and the call inc
 unfoldable pub bounded_tables : Tables
-bounded_tables = tables [] (counter ∷ []) (bool_enum ∷ []) [] (cell (codes "n") (ty.Int 0) (Some at_most_two) ∷ []) [] (inc_call ∷ [])
+bounded_tables = tables [] (counter ∷ []) (bool_enum ∷ []) [] (cell (codes "n") (ty.Int 0) (Some at_most_two) ∷ [])
+    [] (inc_call ∷ [])
 
 -- int P 0..9
 abbrev pub price : IntDecl

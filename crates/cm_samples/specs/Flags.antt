@@ -15,11 +15,13 @@ assume_unused = stmt.Assume (expr.Not (expr.Cell 0 (Some (expr.Local 0))))
 
 -- call open(; internal d: Fd) -> Fd { assume not used[d]; used[d] = true; return d; }
 abbrev pub open_call : Call
-open_call = routine (codes "open") (part (codes "d") (ty.Sort 0) ∷ []) 0 (ty.Sort 0) (assume_unused ∷ stmt.Set 0 (Some (expr.Local 0)) truth ∷ stmt.Return (expr.Local 0) ∷ [])
+open_call = routine (codes "open") (part (codes "d") (ty.Sort 0) ∷ []) 0 (ty.Sort 0)
+    (assume_unused ∷ stmt.Set 0 (Some (expr.Local 0)) truth ∷ stmt.Return (expr.Local 0) ∷ [])
 
 -- sort Fd; state used: map Fd -> bool; and the call
 unfoldable pub open_tables : Tables
-open_tables = tables (codes "Fd" ∷ []) [] (bool_enum ∷ []) [] (map_from (codes "used") (ty.Sort 0) bool None ∷ []) [] (open_call ∷ [])
+open_tables = tables (codes "Fd" ∷ []) [] (bool_enum ∷ []) [] (map_from (codes "used") (ty.Sort 0) bool None ∷ [])
+    [] (open_call ∷ [])
 
 -- call set() -> bool { on = true; return true; }
 abbrev pub set_call : Call
@@ -43,8 +45,10 @@ is_unset = expr.Not (expr.Local 0)
 
 -- call put(k: K) -> bool { m[k] = true; return true; }
 abbrev pub mark_call : Call
-mark_call = routine (codes "put") (part (codes "k") (ty.Sort 0) ∷ []) 1 bool (stmt.Set 0 (Some (expr.Local 0)) truth ∷ stmt.Return truth ∷ [])
+mark_call = routine (codes "put") (part (codes "k") (ty.Sort 0) ∷ []) 1 bool (stmt.Set 0 (Some (expr.Local 0)) truth
+    ∷ stmt.Return truth ∷ [])
 
 -- sort K; state m: map K -> bool where not it; and the call
 unfoldable pub unset_tables : Tables
-unset_tables = tables (codes "K" ∷ []) [] (bool_enum ∷ []) [] (map_from (codes "m") (ty.Sort 0) bool (Some is_unset) ∷ []) [] (mark_call ∷ [])
+unset_tables = tables (codes "K" ∷ []) [] (bool_enum ∷ []) [] (map_from (codes "m") (ty.Sort 0) bool (Some is_unset)
+    ∷ []) [] (mark_call ∷ [])

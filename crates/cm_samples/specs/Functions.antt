@@ -28,8 +28,10 @@ both_call = routine (codes "both") [] 0 bool (stmt.Return (expr.All (expr.Cell 0
 
 -- call either() -> bool { return on or out; }
 abbrev pub either_call : Call
-either_call = routine (codes "either") [] 0 bool (stmt.Return (expr.Any (expr.Cell 0 None ∷ expr.Cell 1 None ∷ [])) ∷ [])
+either_call = routine (codes "either") [] 0 bool (stmt.Return (expr.Any (expr.Cell 0 None ∷ expr.Cell 1 None ∷ []))
+    ∷ [])
 
 -- state on: bool; state out: bool; the functions and the calls
 unfoldable pub routines_tables : Tables
-routines_tables = tables [] [] (bool_enum ∷ []) [] on_and_out (mark_fun ∷ need_fun ∷ []) (tell_call ∷ must_call ∷ both_call ∷ either_call ∷ [])
+routines_tables = tables [] [] (bool_enum ∷ []) [] on_and_out (mark_fun ∷ need_fun ∷ [])
+    (tell_call ∷ must_call ∷ both_call ∷ either_call ∷ [])

@@ -13,7 +13,12 @@ two_sorts = codes "Ino" ∷ codes "Byte" ∷ []
 
 -- int Off 0..100000; int Few 0..3; int Five 5..5;
 abbrev pub three_ints : List IntDecl
-three_ints = record { name = codes "Off"; lo = pos 0; hi = pos 100000 } ∷ record { name = codes "Few"; lo = pos 0; hi = pos 3 }
+three_ints = record { name = codes "Off"; lo = pos 0; hi = pos 100000 } ∷ record {
+  name = codes "Few";
+  lo =
+      pos 0;
+  hi = pos 3;
+}
     ∷ record { name = codes "Five"; lo = pos 5; hi = pos 5 } ∷ []
 
 -- enum Kind { FILE, RPIPE, WPIPE }

@@ -44,4 +44,5 @@ on_and_out = cell (codes "on") bool None ∷ cell (codes "out") bool None ∷ []
 
 -- whether states 0 and 1 are equal, in a call same() -> bool
 abbrev pub same_call : Call
-same_call = routine (codes "same") [] 0 bool (stmt.Return (expr.Compare op.Eq (expr.Cell 0 None) (expr.Cell 1 None)) ∷ [])
+same_call = routine (codes "same") [] 0 bool (stmt.Return (expr.Compare op.Eq (expr.Cell 0 None) (expr.Cell 1 None))
+    ∷ [])

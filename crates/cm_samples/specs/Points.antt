@@ -18,7 +18,8 @@ point = record { name = codes "P"; fields = part (codes "x") (ty.Sort 0) ∷ par
 -- state p: P; state q: P; state l: E; state r: E;
 abbrev pub points_and_elements : List StateDecl
 points_and_elements =
-    cell (codes "p") (ty.Rec 0) None ∷ cell (codes "q") (ty.Rec 0) None ∷ cell (codes "l") (ty.Sort 0) None ∷ cell (codes "r") (ty.Sort 0) None ∷ []
+    cell (codes "p") (ty.Rec 0) None ∷ cell (codes "q") (ty.Rec 0) None ∷ cell (codes "l") (ty.Sort 0) None
+    ∷ cell (codes "r") (ty.Sort 0) None ∷ []
 
 -- { y: r, x: l }
 abbrev pub right_and_left : List SetField
@@ -38,4 +39,5 @@ first_call = routine (codes "first") [] 0 (ty.Sort 0) (stmt.Return (expr.Fields 
 
 -- sort E; the record, the states and the calls
 unfoldable pub records_tables : Tables
-records_tables = tables (codes "E" ∷ []) [] (bool_enum ∷ []) (point ∷ []) points_and_elements [] (same_call ∷ fill_call ∷ first_call ∷ [])
+records_tables = tables (codes "E" ∷ []) [] (bool_enum ∷ []) (point ∷ []) points_and_elements []
+    (same_call ∷ fill_call ∷ first_call ∷ [])

@@ -13,11 +13,13 @@ get_call = routine (codes "get") [] 0 (ty.Sort 0) (stmt.Return (expr.Cell 0 None
 
 -- call put(v: V) -> bool { x = v; return true; }
 abbrev pub put_call : Call
-put_call = routine (codes "put") (part (codes "v") (ty.Sort 0) ∷ []) 1 bool (stmt.Set 0 None (expr.Local 0) ∷ stmt.Return truth ∷ [])
+put_call = routine (codes "put") (part (codes "v") (ty.Sort 0) ∷ []) 1 bool (stmt.Set 0 None (expr.Local 0)
+    ∷ stmt.Return truth ∷ [])
 
 -- sort V; state x: V; and the calls
 unfoldable pub reg_tables : Tables
-reg_tables = tables (codes "V" ∷ []) [] (bool_enum ∷ []) [] (cell (codes "x") (ty.Sort 0) None ∷ []) [] (get_call ∷ put_call ∷ [])
+reg_tables = tables (codes "V" ∷ []) [] (bool_enum ∷ []) [] (cell (codes "x") (ty.Sort 0) None ∷ [])
+    [] (get_call ∷ put_call ∷ [])
 
 -- call put(k: K, v: V) -> bool { m[k] = v; return true; }
 abbrev pub store_call : Call
@@ -27,12 +29,15 @@ store_call =
 
 -- sort K; sort V; state m: map K -> V; and the call
 unfoldable pub map_tables : Tables
-map_tables = tables (codes "K" ∷ codes "V" ∷ []) [] (bool_enum ∷ []) [] (map_from (codes "m") (ty.Sort 0) (ty.Sort 1) None ∷ []) [] (store_call ∷ [])
+map_tables = tables (codes "K" ∷ codes "V" ∷ []) [] (bool_enum ∷ []) [] (map_from (codes "m") (ty.Sort 0)
+    (ty.Sort 1) None ∷ []) [] (store_call ∷ [])
 
 -- call set(v: V) -> bool { x = some(v); return true; }
 abbrev pub fill_call : Call
-fill_call = routine (codes "set") (part (codes "v") (ty.Sort 0) ∷ []) 1 bool (stmt.Set 0 None (expr.SomeOf (expr.Local 0)) ∷ stmt.Return truth ∷ [])
+fill_call = routine (codes "set") (part (codes "v") (ty.Sort 0) ∷ []) 1 bool
+    (stmt.Set 0 None (expr.SomeOf (expr.Local 0)) ∷ stmt.Return truth ∷ [])
 
 -- sort V; state x: option(V); and the call
 unfoldable pub opt_tables : Tables
-opt_tables = tables (codes "V" ∷ []) [] (bool_enum ∷ []) [] (cell (codes "x") (ty.Option (ty.Sort 0)) None ∷ []) [] (fill_call ∷ [])
+opt_tables = tables (codes "V" ∷ []) [] (bool_enum ∷ []) [] (cell (codes "x") (ty.Option (ty.Sort 0)) None ∷ [])
+    [] (fill_call ∷ [])

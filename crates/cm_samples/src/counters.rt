@@ -3,7 +3,8 @@
 ghost use Rattle.std.specs.Prelude.{◌≡◌, IfOk, [], ◌∷◌, Some, codes};
 ghost use Rattle.cm_model.specs.declared.ty.Ty.TheVariants as ty;
 ghost use Rattle.cm_samples.specs.Parts as parts;
-ghost use Rattle.cm_samples.specs.Counters.{inc_tables, next_tables, bounded_tables, max_tables, inc_call, next_call, raise_call, count_on, raise_it, at_most_two};
+ghost use Rattle.cm_samples.specs.Counters.{inc_tables, next_tables, bounded_tables, max_tables, inc_call, next_call};
+ghost use Rattle.cm_samples.specs.Counters.{raise_call, count_on, raise_it, at_most_two};
 
 use crate::parts::{
     compare, int, into, one, only_bool, only_cell, only_part, read, routine, set, shift, three,

@@ -1,7 +1,8 @@
 //! A model of two flags.
 
 ghost use Rattle.std.specs.Prelude.{◌≡◌, IfOk, [], ◌∷◌, Some, codes};
-ghost use Rattle.cm_samples.specs.Flags.{open_tables, fire_tables, unset_tables, open_call, set_call, fire_call, mark_call, assume_unused, fire_if_on, is_unset};
+ghost use Rattle.cm_samples.specs.Flags.{open_tables, fire_tables, unset_tables, open_call, set_call, fire_call};
+ghost use Rattle.cm_samples.specs.Flags.{mark_call, assume_unused, fire_if_on, is_unset};
 ghost use Rattle.cm_model.specs.declared.ty.Ty.TheVariants as ty;
 ghost use Rattle.cm_samples.specs.Parts as parts;
 
@@ -121,7 +122,8 @@ fn fire_if_on(alloc: Global) -> Result<Stmt, NoMemory>
 }
 
 fn unset_states(alloc: Global) -> Result<List<StateDecl>, NoMemory>
-    ensures exact { IfOk result (λ states. states ≡ parts.map_from (codes "m") (ty.Sort 0) parts.bool (Some is_unset) ∷ []) }
+    ensures exact { IfOk result (λ states. states ≡ parts.map_from (codes "m") (ty.Sort 0) parts.bool (Some is_unset)
+        ∷ []) }
 {
     let limit = not(alloc, Expr::Local(0))?;
     let states = only_map(alloc, "m", Ty::Sort(0), Ty::Enum(0), Some(limit))?;

@@ -1,7 +1,8 @@
 //! A model with functions.
 
 ghost use Rattle.std.specs.Prelude.{◌≡◌, IfOk, [], ◌∷◌};
-ghost use Rattle.cm_samples.specs.Functions.{routines_tables, mark_fun, need_fun, tell_call, must_call, both_call, either_call};
+ghost use Rattle.cm_samples.specs.Functions.{routines_tables, mark_fun, need_fun, tell_call, must_call, both_call};
+ghost use Rattle.cm_samples.specs.Functions.{either_call};
 
 use crate::parts::{
     and, apply, four, on_and_out, one, only_bool, or, read, routine, set, truth, two,

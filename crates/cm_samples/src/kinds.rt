@@ -3,7 +3,8 @@
 ghost use Rattle.std.specs.Prelude.{◌≡◌, IfOk, [], ◌∷◌, pos};
 ghost use Rattle.cm_model.specs.declared.ty.Ty.TheVariants as ty;
 ghost use Rattle.cm_samples.specs.Parts as parts;
-ghost use Rattle.cm_samples.specs.Kinds.{kinds_tables, two_sorts, three_ints, kind_enum, only_enum, desc, loc, mapping, spot};
+ghost use Rattle.cm_samples.specs.Kinds.{kinds_tables, two_sorts, three_ints, kind_enum, only_enum, desc, loc, mapping};
+ghost use Rattle.cm_samples.specs.Kinds.{spot};
 
 use crate::parts::{four, one, part, three, two};
 use cm_model::{Boxed, EnumDecl, IntDecl, List, Model, Name, NoMemory, Part, RecDecl, Ty};

@@ -2,7 +2,8 @@
 
 ghost use Rattle.std.specs.Prelude.{◌≡◌, IfOk, [], ◌∷◌};
 ghost use Rattle.cm_samples.specs.Parts as parts;
-ghost use Rattle.cm_samples.specs.Points.{records_tables, point, points_and_elements, right_and_left, fill_it, fill_call, first_call};
+ghost use Rattle.cm_samples.specs.Points.{records_tables, point, points_and_elements, right_and_left, fill_it};
+ghost use Rattle.cm_samples.specs.Points.{fill_call, first_call};
 
 use crate::parts::{
     cell, field, four, one, only_bool, part, read, routine, same_call, set, sort, three, two, with,

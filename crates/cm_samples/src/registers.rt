@@ -3,7 +3,8 @@
 ghost use Rattle.std.specs.Prelude.{◌≡◌, IfOk, [], ◌∷◌, None, codes};
 ghost use Rattle.cm_model.specs.declared.ty.Ty.TheVariants as ty;
 ghost use Rattle.cm_samples.specs.Parts as parts;
-ghost use Rattle.cm_samples.specs.Registers.{reg_tables, map_tables, opt_tables, get_call, put_call, store_call, fill_call};
+ghost use Rattle.cm_samples.specs.Registers.{reg_tables, map_tables, opt_tables, get_call, put_call, store_call};
+ghost use Rattle.cm_samples.specs.Registers.{fill_call};
 
 use crate::parts::{
     one, only_bool, only_cell, only_map, only_part, part, read, routine, set, set_at, some, sort,

@@ -1,13 +1,16 @@
 -- Classes and differences keep to sorts.
-use Rattle.std.proofs.Common.{◌≡◌, ◌<◌, ◌≤◌, ◌+◌, ◌||◌, ◌++◌, ◌∷◌, [], ℕ, true, false, min, max, IsTrue, List, length, map, slice_index, inl, inr, refl, sym, ap, ◌∙◌, arith}
+use Rattle.std.proofs.Common.{◌≡◌, ◌<◌, ◌≤◌, ◌+◌, ◌||◌, ◌++◌, ◌∷◌, [], ℕ, true, false, min, max, IsTrue, List, length}
+use Rattle.std.proofs.Common.{map, slice_index, inl, inr, refl, sym, ap, ◌∙◌, arith}
 use Rattle.std.proofs.lemmas.Bool.{cases_eq, cases_lt, or_cases}
 use Rattle.std.proofs.lemmas.List.{get_or_append_left, get_or_at, length_push, length-map, map-append}
 use Rattle.cm_sorts.specs.declared.words.Variable.{Variable}
-use Rattle.cm_sorts.specs.Pairs.{is_set, are_marked, is_pair}
+use Rattle.cm_sorts.specs.inner.Pairs.{is_set, are_marked, is_pair}
 use Rattle.cm_sorts.specs.Partition.{KeepsToSorts}
-use Rattle.cm_sorts.specs.Words.{labels_of, sorts_of, partition_of, IsProper, AreOfOneSort, is_shared, renamed, relabelled}
+use Rattle.cm_sorts.specs.inner.Words.{labels_of, sorts_of, partition_of, IsProper, AreOfOneSort, is_shared, renamed}
+use Rattle.cm_sorts.specs.inner.Words.{relabelled}
 use Rattle.cm_sorts.proofs.Sharing.{are_marked_comm}
-use Rattle.cm_sorts.proofs.Joining.{shared_by, joined_label, pair_by, renamed_gone, renamed_other, marks_same, labels_relabelled, sorts_relabelled, sorts_in}
+use Rattle.cm_sorts.proofs.Joining.{shared_by, joined_label, pair_by, renamed_gone, renamed_other, marks_same}
+use Rattle.cm_sorts.proofs.Joining.{labels_relabelled, sorts_relabelled, sorts_in}
 use Rattle.cm_sorts.proofs.Valuations.{row_at}
 
 pub none_sorted : AreOfOneSort [] [] []
@@ -75,13 +78,14 @@ joined_sorted sorts labels words new keep gone in_list one marks h = record {
             ∙ ap (slice_index sorts) (sym e) ∙ h.classes x q
         | inr f ↦ ap (slice_index sorts) (renamed_other gone keep (slice_index labels x) f) ∙ h.classes x q
       ]);
-  marks = λ x y p q m. elim (or_cases (are_marked words x y) (is_shared words keep gone (length labels) x y) (sym (marks x y) ∙ m)) [
-    | inl k ↦ h.marks x y (within x p) (within y q) k
-    | inr k ↦ elim (shared_by words keep gone (length labels) x y k) [
-      | inl f ↦ ap (slice_index sorts) f.0 ∙ one ∙ h.marks gone y in_list f.1 f.2
-      | inr f ↦ sym (ap (slice_index sorts) f.0 ∙ one ∙ h.marks gone x in_list f.1 f.2)
-    ]
-  ];
+  marks = λ x y p q m. elim (or_cases (are_marked words x y) (is_shared words keep gone (length labels) x y)
+      (sym (marks x y) ∙ m)) [
+        | inl k ↦ h.marks x y (within x p) (within y q) k
+        | inr k ↦ elim (shared_by words keep gone (length labels) x y k) [
+          | inl f ↦ ap (slice_index sorts) f.0 ∙ one ∙ h.marks gone y in_list f.1 f.2
+          | inr f ↦ sym (ap (slice_index sorts) f.0 ∙ one ∙ h.marks gone x in_list f.1 f.2)
+        ]
+      ];
 }
   where
     within : (x : ℕ) → x < length (map (renamed gone keep) labels) → x < length labels
@@ -91,7 +95,8 @@ joined_sorted sorts labels words new keep gone in_list one marks h = record {
 pub labels_of_one_sort : (vs : List Variable) (words : List ℕ) (x y a b : ℕ)
     → AreOfOneSort (sorts_of vs) (labels_of vs) words → x < length (sorts_of vs) → y < length (sorts_of vs)
     → a ≡ slice_index (labels_of vs) x → b ≡ slice_index (labels_of vs) y
-    → slice_index (sorts_of vs) x ≡ slice_index (sorts_of vs) y → slice_index (sorts_of vs) a ≡ slice_index (sorts_of vs) b
+    → slice_index (sorts_of vs) x ≡ slice_index (sorts_of vs) y
+    → slice_index (sorts_of vs) a ≡ slice_index (sorts_of vs) b
 labels_of_one_sort vs words x y a b h p q e f one =
     ap (slice_index (sorts_of vs)) e ∙ h.classes x (sorts_in vs x p) ∙ one
     ∙ sym (h.classes y (sorts_in vs y q)) ∙ sym (ap (slice_index (sorts_of vs)) f)
@@ -105,8 +110,10 @@ pub equal_sorted : (vs : List Variable) (words new : List ℕ) (x y a b : ℕ) �
     → AreOfOneSort (sorts_of (map (relabelled (max a b) (min a b)) vs))
     (labels_of (map (relabelled (max a b) (min a b)) vs)) new
 equal_sorted vs words new x y a b proper h p q e f one marks =
-    let a_in : a < length (labels_of vs) = let low = proper.least x (sorts_in vs x p) in let there = sorts_in vs x p in omega arith in
-    let b_in : b < length (labels_of vs) = let low = proper.least y (sorts_in vs y q) in let there = sorts_in vs y q in omega arith in
+    let a_in : a < length (labels_of vs) = let low = proper.least x (sorts_in vs x p) in let there = sorts_in vs x p in
+    omega arith in
+    let b_in : b < length (labels_of vs) = let low = proper.least y (sorts_in vs y q) in let there = sorts_in vs y q in
+    omega arith in
     let same = labels_of_one_sort vs words x y a b h p q e f one in
     rw (labels_relabelled (max a b) (min a b) vs, sorts_relabelled (max a b) (min a b) vs)
     (joined_sorted (sorts_of vs) (labels_of vs) words new (min a b) (max a b) (omega arith) (extremes_same a b same)

@@ -1,3 +1,2 @@
-pub mod Pairs
 pub mod Partition
-pub mod Words
+pub mod inner

@@ -1,6 +1,7 @@
 //! Classes of equal elements, and which of them differ.
 
-ghost use Rattle.std.specs.Prelude.{◌≡◌, ◌≢◌, ◌<◌, ◌≤◌, ◌↔◌, ◌++◌, ◌∷◌, [], ℕ, true, IsTrue, IfOk, OnOk, length, slice_get, slice_index};
+ghost use Rattle.std.specs.Prelude.{◌≡◌, ◌≢◌, ◌<◌, ◌≤◌, ◌↔◌, ◌++◌, ◌∷◌, [], ℕ, true, IsTrue, IfOk, OnOk, length};
+ghost use Rattle.std.specs.Prelude.{slice_get, slice_index};
 ghost use Rattle.cm_sorts.specs.Partition.{Satisfies, IsSatisfiable, KeepsToSorts, Allows, Keeps, Implies};
 
 use crate::pairs;
@@ -20,7 +21,7 @@ pub struct Classes {
 
 impl Model for Classes {
     ghost use Rattle.cm_sorts.specs.Partition.{Partition};
-    ghost use Rattle.cm_sorts.specs.Words.{partition_of, labels_of, sorts_of, IsKept};
+    ghost use Rattle.cm_sorts.specs.inner.Words.{partition_of, labels_of, sorts_of, IsKept};
 
     ghost Value = { Partition };
 

@@ -1,11 +1,11 @@
 //! Numbers of pairs of variables, by shells.
 
 ghost use Rattle.std.specs.Prelude.{◌≡◌, ◌≢◌, ◌<◌, ◌/◌, ◌^◌, ◌==◌, ◌||◌, ℕ, length};
-ghost use Rattle.cm_sorts.specs.Pairs.{is_pair};
-ghost use Rattle.cm_sorts.specs.Pairs as pairs;
+ghost use Rattle.cm_sorts.specs.inner.Pairs.{is_pair};
+ghost use Rattle.cm_sorts.specs.inner.Pairs as pairs;
 
 /// Whether the bit of the pair is set.
-#[tactic(auto, unfolding(crate::specs::Pairs::are_marked))]
+#[tactic(auto, unfolding(crate::specs::inner::Pairs::are_marked))]
 pub fn are_marked(words: &[u64], x: u64, y: u64) -> bool
     requires x { x < 2 ^ 32 }
     requires y { y < 2 ^ 32 }
@@ -26,7 +26,7 @@ pub fn mark(words: &mut [u64], x: u64, y: u64)
 }
 
 /// The place of the bit of a pair.
-#[tactic(auto, unfolding(crate::specs::Pairs::place))]
+#[tactic(auto, unfolding(crate::specs::inner::Pairs::place))]
 fn place(x: u64, y: u64) -> u64
     requires x { x < 2 ^ 32 }
     requires y { y < 2 ^ 32 }
@@ -36,7 +36,7 @@ fn place(x: u64, y: u64) -> u64
 }
 
 /// How many pairs have two numbers below `x`.
-#[tactic(auto, unfolding(crate::specs::Pairs::pairs_below))]
+#[tactic(auto, unfolding(crate::specs::inner::Pairs::pairs_below))]
 pub fn pairs_below(x: u64) -> u64
     requires { x < 2 ^ 32 }
     ensures value { result ≡ pairs.pairs_below x }
@@ -45,7 +45,7 @@ pub fn pairs_below(x: u64) -> u64
     x * x.saturating_sub(1) / 2
 }
 
-#[tactic(auto, unfolding(crate::specs::Pairs::is_set), using(std::proofs::lemmas::Nat::Bits::shr_and_one))]
+#[tactic(auto, unfolding(crate::specs::inner::Pairs::is_set), using(std::proofs::lemmas::Nat::Bits::shr_and_one))]
 fn is_set(words: &[u64], place: u64) -> bool
     ensures { result ≡ pairs.is_set words.now place }
 {

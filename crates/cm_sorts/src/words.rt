@@ -1,8 +1,9 @@
 //! Bits in words.
 
-ghost use Rattle.std.specs.Prelude.{◌≡◌, ◌<◌, ◌≤◌, ◌^◌, ◌+◌, ◌*◌, ◌-◌, ◌/◌, ◌&&◌, ◌||◌, ◌++◌, ℕ, false, length, map, slice_get, slice_index, replicate, OnOk};
-ghost use Rattle.cm_sorts.specs.Pairs.{are_marked, is_pair, is_set, pairs_below};
-ghost use Rattle.cm_sorts.specs.Words.{labels_of, sorts_of, is_shared, relabelled};
+ghost use Rattle.std.specs.Prelude.{◌≡◌, ◌<◌, ◌≤◌, ◌^◌, ◌+◌, ◌*◌, ◌-◌, ◌/◌, ◌&&◌, ◌||◌, ◌++◌, ℕ, false, length, map};
+ghost use Rattle.std.specs.Prelude.{slice_get, slice_index, replicate, OnOk};
+ghost use Rattle.cm_sorts.specs.inner.Pairs.{are_marked, is_pair, is_set, pairs_below};
+ghost use Rattle.cm_sorts.specs.inner.Words.{labels_of, sorts_of, is_shared, relabelled};
 
 use crate::pairs;
 use cm_model::NoMemory;
@@ -51,7 +52,8 @@ pub fn join(variables: &mut [Variable], words: &mut [u64], keep: u64, gone: u64)
     requires within { gone < length variables.old }
     requires may { are_marked words.old gone keep ≡ false }
     ensures labels { variables.new ≡ map (relabelled gone keep) variables.old }
-    ensures marks { (i j : ℕ) → are_marked words.new i j ≡ (are_marked words.old i j || is_shared words.old keep gone (length variables.old) i j) }
+    ensures marks { (i j : ℕ) → are_marked words.new i j ≡ (are_marked words.old i j
+        || is_shared words.old keep gone (length variables.old) i j) }
 {
     share_marks(words, variables.len() as u64, keep, gone);
     rename(variables, gone as u32, keep as u32);
@@ -63,7 +65,8 @@ pub fn share_marks(words: &mut [u64], count: u64, keep: u64, gone: u64)
     requires few { count < 2 ^ 32 }
     requires within { gone < 2 ^ 32 }
     requires may { are_marked words.old gone keep ≡ false }
-    ensures { (i j : ℕ) → are_marked words.new i j ≡ (are_marked words.old i j || is_shared words.old keep gone count i j) }
+    ensures { (i j : ℕ) → are_marked words.new i j ≡ (are_marked words.old i j
+        || is_shared words.old keep gone count i j) }
 {
     'others: for other in 0..count {
         share_mark(words, keep, gone, other);
@@ -75,7 +78,8 @@ fn share_mark(words: &mut [u64], keep: u64, gone: u64, other: u64)
     requires within { gone < 2 ^ 32 }
     requires other { other < 2 ^ 32 }
     requires may { are_marked words.old gone keep ≡ false }
-    ensures { (i j : ℕ) → are_marked words.new i j ≡ (are_marked words.old i j || (are_marked words.old gone other && is_pair keep other i j)) }
+    ensures { (i j : ℕ) → are_marked words.new i j ≡ (are_marked words.old i j
+        || (are_marked words.old gone other && is_pair keep other i j)) }
 {
     if pairs::are_marked(words, gone, other) {
         pairs::mark(words, keep, other);

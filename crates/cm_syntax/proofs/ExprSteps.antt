@@ -1,12 +1,10 @@
 -- How the reader's steps add up. What stands for expressions.
-use Rattle.std.proofs.Common.{◌≡◌, ℕ, true, List, [], ◌∷◌, Option, Some, refl, ap, ◌∙◌}
+use Rattle.std.proofs.Common.{◌≡◌, ℕ, true, List, ◌∷◌, Option, Some, refl, ap, ◌∙◌}
 use Rattle.cm_model.specs.declared.place.Place.{Place}
 use Rattle.cm_tokens.specs.declared.token.Token.{Token}
 use Rattle.cm_tokens.specs.declared.token.Token.TheVariants as token
 use Rattle.cm_syntax.specs.declared.mark.Mark.TheVariants as mark
 use Rattle.cm_syntax.specs.declared.tree.Tree.{Tree}
-use Rattle.cm_syntax.specs.declared.tree.Num.{Num}
-use Rattle.cm_syntax.specs.declared.tree.«Type».{«Type» as TypeTree}
 use Rattle.cm_syntax.specs.declared.tree.Expr.{Expr}
 use Rattle.cm_syntax.specs.declared.tree.Cmp.{Cmp}
 use Rattle.cm_syntax.specs.declared.tree.Relation.{Relation}
@@ -17,9 +15,6 @@ use Rattle.cm_syntax.specs.declared.tree.Unary.TheVariants.{Bare, Not}
 use Rattle.cm_syntax.specs.declared.tree.Post.{Post}
 use Rattle.cm_syntax.specs.declared.tree.Set.{Set}
 use Rattle.cm_syntax.specs.declared.tree.Primary.{Primary}
-use Rattle.cm_syntax.specs.declared.tree.Primary.TheVariants as prim
-use Rattle.cm_syntax.specs.declared.tails.AfterName.{AfterName}
-use Rattle.cm_syntax.specs.declared.tails.AfterName.TheVariants as after
 use Rattle.cm_syntax.specs.declared.tails.Offset.{Offset}
 use Rattle.cm_syntax.specs.declared.tails.Offset.TheVariants as offset
 use Rattle.cm_syntax.specs.declared.tails.RightSide.{RightSide}
@@ -27,396 +22,104 @@ use Rattle.cm_syntax.specs.declared.tails.RightSide.TheVariants as right
 use Rattle.cm_syntax.specs.declared.tails.Joined.{Joined}
 use Rattle.cm_syntax.specs.declared.tails.Joined.TheVariants as joined
 use Rattle.cm_syntax.specs.declared.fault.SyntaxFault.{SyntaxFault}
-use Rattle.cm_syntax.specs.Spelling.{set_of, post_of, relation_token}
+use Rattle.cm_syntax.specs.Spelling.{post_of, relation_token}
 use Rattle.cm_syntax.specs.Text.{place_of}
-use Rattle.cm_syntax.specs.Machine as m
-use Rattle.cm_syntax.specs.Machine.{Exactly, AName, ANumber, ANum, AType, APart, MoreParts, Params, Internals, MoreNames, Key, Where, ADecl, Decls, ABlock, Stmts, AStmt, Index, Else, AnExpr, MoreCmps, Ands, Ors, ACmp, Right, ASum, AnOffset, AUnary, APost, Fields, With, MoreSets, ASet, APrim, BehindName, Args, MoreArgs, Text, Stack, Values, Shift, Takes, mapped, shift, reading, Ahead, head, Gives, Stops, Passes, Halts, part_of, after_name, sum_of, cmp_of, expr_of, assign_of, if_of, block_of, state_of, tree_of, starts_number, starts_name, starts_num, no_name, no_relation, no_close_curly, no_end, no_close_round, no_not}
+use Rattle.cm_syntax.specs.inner.Machine as m
+use Rattle.cm_syntax.specs.inner.Machine.{Exactly, ANumber, Where, AnExpr, MoreCmps, Ands, Ors, ACmp, Right, ASum}
+use Rattle.cm_syntax.specs.inner.Machine.{AnOffset, AUnary, APost, Fields, With, MoreSets, ASet, APrim, Stack, Values}
+use Rattle.cm_syntax.specs.inner.Machine.{Shift, Takes, mapped, shift, reading, Ahead, head, Gives, Stops, Passes}
+use Rattle.cm_syntax.specs.inner.Machine.{Halts, sum_of, cmp_of, expr_of, no_not}
 use Rattle.cm_syntax.proofs.Steps.{same_read, passes_to, halts_at, stops_by, memory, reads_ok, reads_err}
 
-at_number : (o : Option Token) (p : Place) (st : Stack) → starts_num o ≡ true → m.prim_at o p st ≡ mapped (λ v. (prim.Number p v.0, v.1)) (m.num_at o p (st))
-at_number (Some (token.Number n)) p st h = refl
-at_number (Some token.Minus) p st h = refl
-at_number o p st h = cc
-
-open_number : (b : Ahead) (p : Place) (st : Stack) (k : Values (APrim ∷ st) → Tree) → place_of b.left ≡ p → starts_num (head b.left) ≡ true → reading b.opened (APrim ∷ st) k b.left ≡ reading b.opened (ANum ∷ st) (λ v. k (prim.Number p v.0, v.1)) b.left
-open_number b p st k q w = same_read b.opened (ANum ∷ st) (APrim ∷ st) (λ v. (prim.Number (place_of b.left) v.0, v.1)) k b.left (at_number (head b.left) (place_of b.left) st w) ∙ ap (λ p. reading b.opened (ANum ∷ st) (λ v. k (prim.Number p v.0, v.1)) b.left) q
-
-pub gives_number : (b0 b1 : Ahead) (p : Place) (x0 : Num) → place_of b0.left ≡ p → starts_num (head b0.left) ≡ true → Gives ANum b0 x0 b1 → Gives APrim b0 (prim.Number p x0) b1
-unfolding Gives
-gives_number b0 b1 p x0 q w g0 = λ st k.
-    open_number b0 p st k q w
-    ∙ g0 (st) (λ v. k (prim.Number p v.0, v.1))
-
-pub stops_number_0 : (b0 : Ahead) (p : Place) (e : SyntaxFault) → place_of b0.left ≡ p → starts_num (head b0.left) ≡ true → Stops ANum b0 e → Stops APrim b0 e
-stops_number_0 b0 p e q w z = stops_by APrim ANum b0 b0 e (λ st k. (
-  (st),
-  (λ v. k (prim.Number p v.0, v.1)),
-  open_number b0 p st k q w,
-)) z
-
-pub ruleset steps_number = (gives_number, stops_number_0, memory, reads_ok, reads_err)
-
-pub gives_true : (a b0 : Ahead) (p : Place) → head a.left ≡ Some token.True → Passes a p b0 → Gives APrim a (prim.True p) b0
-unfolding Gives
-gives_true a b0 p h q = λ st k.
-    passes_to APrim token.True a b0 p st (st) (λ v. (prim.True p, v)) h q refl k
-
-pub halts_true : (a : Ahead) (e : SyntaxFault) → head a.left ≡ Some token.True → Halts a e → Stops APrim a e
-halts_true a e h q = halts_at APrim token.True a e h q (λ p st. ((st), (λ v. (prim.True p, v)), refl))
-
-pub ruleset steps_true = (gives_true, halts_true, memory, reads_ok, reads_err)
-
-pub gives_false : (a b0 : Ahead) (p : Place) → head a.left ≡ Some token.False → Passes a p b0 → Gives APrim a (prim.False p) b0
-unfolding Gives
-gives_false a b0 p h q = λ st k.
-    passes_to APrim token.False a b0 p st (st) (λ v. (prim.False p, v)) h q refl k
-
-pub halts_false : (a : Ahead) (e : SyntaxFault) → head a.left ≡ Some token.False → Halts a e → Stops APrim a e
-halts_false a e h q = halts_at APrim token.False a e h q (λ p st. ((st), (λ v. (prim.False p, v)), refl))
-
-pub ruleset steps_false = (gives_false, halts_false, memory, reads_ok, reads_err)
-
-pub gives_it : (a b0 : Ahead) (p : Place) → head a.left ≡ Some token.It → Passes a p b0 → Gives APrim a (prim.It p) b0
-unfolding Gives
-gives_it a b0 p h q = λ st k.
-    passes_to APrim token.It a b0 p st (st) (λ v. (prim.It p, v)) h q refl k
-
-pub halts_it : (a : Ahead) (e : SyntaxFault) → head a.left ≡ Some token.It → Halts a e → Stops APrim a e
-halts_it a e h q = halts_at APrim token.It a e h q (λ p st. ((st), (λ v. (prim.It p, v)), refl))
-
-pub ruleset steps_it = (gives_it, halts_it, memory, reads_ok, reads_err)
-
-at_name : (o : Option Token) (p : Place) (st : Stack) → starts_name o ≡ true → m.prim_at o p st ≡ mapped (λ v. (after_name p v.0 v.1.0, v.1.1)) (m.name_at o (BehindName ∷ st))
-at_name (Some (token.Name n)) p st h = refl
-at_name o p st h = cc
-
-open_name : (b : Ahead) (p : Place) (st : Stack) (k : Values (APrim ∷ st) → Tree) → place_of b.left ≡ p → starts_name (head b.left) ≡ true → reading b.opened (APrim ∷ st) k b.left ≡ reading b.opened (AName ∷ BehindName ∷ st) (λ v. k (after_name p v.0 v.1.0, v.1.1)) b.left
-open_name b p st k q w = same_read b.opened (AName ∷ BehindName ∷ st) (APrim ∷ st) (λ v. (after_name (place_of b.left) v.0 v.1.0, v.1.1)) k b.left (at_name (head b.left) (place_of b.left) st w) ∙ ap (λ p. reading b.opened (AName ∷ BehindName ∷ st) (λ v. k (after_name p v.0 v.1.0, v.1.1)) b.left) q
-
-pub gives_name : (b0 b1 b2 : Ahead) (p : Place) (x0 : List ℕ) (x1 : AfterName) → place_of b0.left ≡ p → starts_name (head b0.left) ≡ true → Gives AName b0 x0 b1 → Gives BehindName b1 x1 b2 → Gives APrim b0 (after_name p x0 x1) b2
-unfolding Gives
-gives_name b0 b1 b2 p x0 x1 q w g0 g1 = λ st k.
-    open_name b0 p st k q w
-    ∙ g0 (BehindName ∷ st) (λ v. k (after_name p v.0 v.1.0, v.1.1))
-    ∙ g1 (st) (λ v. k (after_name p x0 v.0, v.1))
-
-pub stops_name_0 : (b0 : Ahead) (p : Place) (e : SyntaxFault) → place_of b0.left ≡ p → starts_name (head b0.left) ≡ true → Stops AName b0 e → Stops APrim b0 e
-stops_name_0 b0 p e q w z = stops_by APrim AName b0 b0 e (λ st k. (
-  (BehindName ∷ st),
-  (λ v. k (after_name p v.0 v.1.0, v.1.1)),
-  open_name b0 p st k q w,
-)) z
-
-pub stops_name_1 : (b0 b1 : Ahead) (p : Place) (x0 : List ℕ) (e : SyntaxFault) → place_of b0.left ≡ p → starts_name (head b0.left) ≡ true → Gives AName b0 x0 b1 → Stops BehindName b1 e → Stops APrim b0 e
-unfolding Gives
-stops_name_1 b0 b1 p x0 e q w g0 z = stops_by APrim BehindName b0 b1 e (λ st k. (
-  (st),
-  (λ v. k (after_name p x0 v.0, v.1)),
-  open_name b0 p st k q w
-      ∙ g0 (BehindName ∷ st) (λ v. k (after_name p v.0 v.1.0, v.1.1)),
-)) z
-
-pub ruleset steps_name = (gives_name, stops_name_0, stops_name_1, memory, reads_ok, reads_err)
-
-pub gives_none : (a b0 b1 b2 b3 : Ahead) (p : Place) (x1 : TypeTree) → head a.left ≡ Some token.Nothing → Passes a p b0 → Gives (Exactly mark.OpenRound) b0 tt b1 → Gives AType b1 x1 b2 → Gives (Exactly mark.CloseRound) b2 tt b3 → Gives APrim a (prim.NoneOf p x1) b3
-unfolding Gives
-gives_none a b0 b1 b2 b3 p x1 h q g0 g1 g2 = λ st k.
-    passes_to APrim token.Nothing a b0 p st (Exactly mark.OpenRound ∷ AType ∷ Exactly mark.CloseRound ∷ st) (λ v. (prim.NoneOf p v.1.0, v.1.1.1)) h q refl k
-    ∙ g0 (AType ∷ Exactly mark.CloseRound ∷ st) (λ v. k (prim.NoneOf p v.1.0, v.1.1.1))
-    ∙ g1 (Exactly mark.CloseRound ∷ st) (λ v. k (prim.NoneOf p v.0, v.1.1))
-    ∙ g2 (st) (λ v. k (prim.NoneOf p x1, v.1))
-
-pub halts_none : (a : Ahead) (e : SyntaxFault) → head a.left ≡ Some token.Nothing → Halts a e → Stops APrim a e
-halts_none a e h q = halts_at APrim token.Nothing a e h q (λ p st. ((Exactly mark.OpenRound ∷ AType ∷ Exactly mark.CloseRound ∷ st), (λ v. (prim.NoneOf p v.1.0, v.1.1.1)), refl))
-
-pub stops_none_0 : (a b0 : Ahead) (p : Place) (e : SyntaxFault) → head a.left ≡ Some token.Nothing → Passes a p b0 → Stops (Exactly mark.OpenRound) b0 e → Stops APrim a e
-stops_none_0 a b0 p e h q z = stops_by APrim (Exactly mark.OpenRound) a b0 e (λ st k. (
-  (AType ∷ Exactly mark.CloseRound ∷ st),
-  (λ v. k (prim.NoneOf p v.1.0, v.1.1.1)),
-  passes_to APrim token.Nothing a b0 p st (Exactly mark.OpenRound ∷ AType ∷ Exactly mark.CloseRound ∷ st) (λ v. (prim.NoneOf p v.1.0, v.1.1.1)) h q refl k,
-)) z
-
-pub stops_none_1 : (a b0 b1 : Ahead) (p : Place) (e : SyntaxFault) → head a.left ≡ Some token.Nothing → Passes a p b0 → Gives (Exactly mark.OpenRound) b0 tt b1 → Stops AType b1 e → Stops APrim a e
-unfolding Gives
-stops_none_1 a b0 b1 p e h q g0 z = stops_by APrim AType a b1 e (λ st k. (
-  (Exactly mark.CloseRound ∷ st),
-  (λ v. k (prim.NoneOf p v.0, v.1.1)),
-  passes_to APrim token.Nothing a b0 p st (Exactly mark.OpenRound ∷ AType ∷ Exactly mark.CloseRound ∷ st) (λ v. (prim.NoneOf p v.1.0, v.1.1.1)) h q refl k
-      ∙ g0 (AType ∷ Exactly mark.CloseRound ∷ st) (λ v. k (prim.NoneOf p v.1.0, v.1.1.1)),
-)) z
-
-pub stops_none_2 : (a b0 b1 b2 : Ahead) (p : Place) (x1 : TypeTree) (e : SyntaxFault) → head a.left ≡ Some token.Nothing → Passes a p b0 → Gives (Exactly mark.OpenRound) b0 tt b1 → Gives AType b1 x1 b2 → Stops (Exactly mark.CloseRound) b2 e → Stops APrim a e
-unfolding Gives
-stops_none_2 a b0 b1 b2 p x1 e h q g0 g1 z = stops_by APrim (Exactly mark.CloseRound) a b2 e (λ st k. (
-  (st),
-  (λ v. k (prim.NoneOf p x1, v.1)),
-  passes_to APrim token.Nothing a b0 p st (Exactly mark.OpenRound ∷ AType ∷ Exactly mark.CloseRound ∷ st) (λ v. (prim.NoneOf p v.1.0, v.1.1.1)) h q refl k
-      ∙ g0 (AType ∷ Exactly mark.CloseRound ∷ st) (λ v. k (prim.NoneOf p v.1.0, v.1.1.1))
-      ∙ g1 (Exactly mark.CloseRound ∷ st) (λ v. k (prim.NoneOf p v.0, v.1.1)),
-)) z
-
-pub ruleset steps_none = (gives_none, halts_none, stops_none_0, stops_none_1, stops_none_2, memory, reads_ok, reads_err)
-
-pub gives_some : (a b0 b1 b2 b3 : Ahead) (p : Place) (x1 : Expr) → head a.left ≡ Some token.Something → Passes a p b0 → Gives (Exactly mark.OpenRound) b0 tt b1 → Gives AnExpr b1 x1 b2 → Gives (Exactly mark.CloseRound) b2 tt b3 → Gives APrim a (prim.SomeOf p x1) b3
-unfolding Gives
-gives_some a b0 b1 b2 b3 p x1 h q g0 g1 g2 = λ st k.
-    passes_to APrim token.Something a b0 p st (Exactly mark.OpenRound ∷ AnExpr ∷ Exactly mark.CloseRound ∷ st) (λ v. (prim.SomeOf p v.1.0, v.1.1.1)) h q refl k
-    ∙ g0 (AnExpr ∷ Exactly mark.CloseRound ∷ st) (λ v. k (prim.SomeOf p v.1.0, v.1.1.1))
-    ∙ g1 (Exactly mark.CloseRound ∷ st) (λ v. k (prim.SomeOf p v.0, v.1.1))
-    ∙ g2 (st) (λ v. k (prim.SomeOf p x1, v.1))
-
-pub halts_some : (a : Ahead) (e : SyntaxFault) → head a.left ≡ Some token.Something → Halts a e → Stops APrim a e
-halts_some a e h q = halts_at APrim token.Something a e h q (λ p st. ((Exactly mark.OpenRound ∷ AnExpr ∷ Exactly mark.CloseRound ∷ st), (λ v. (prim.SomeOf p v.1.0, v.1.1.1)), refl))
-
-pub stops_some_0 : (a b0 : Ahead) (p : Place) (e : SyntaxFault) → head a.left ≡ Some token.Something → Passes a p b0 → Stops (Exactly mark.OpenRound) b0 e → Stops APrim a e
-stops_some_0 a b0 p e h q z = stops_by APrim (Exactly mark.OpenRound) a b0 e (λ st k. (
-  (AnExpr ∷ Exactly mark.CloseRound ∷ st),
-  (λ v. k (prim.SomeOf p v.1.0, v.1.1.1)),
-  passes_to APrim token.Something a b0 p st (Exactly mark.OpenRound ∷ AnExpr ∷ Exactly mark.CloseRound ∷ st) (λ v. (prim.SomeOf p v.1.0, v.1.1.1)) h q refl k,
-)) z
-
-pub stops_some_1 : (a b0 b1 : Ahead) (p : Place) (e : SyntaxFault) → head a.left ≡ Some token.Something → Passes a p b0 → Gives (Exactly mark.OpenRound) b0 tt b1 → Stops AnExpr b1 e → Stops APrim a e
-unfolding Gives
-stops_some_1 a b0 b1 p e h q g0 z = stops_by APrim AnExpr a b1 e (λ st k. (
-  (Exactly mark.CloseRound ∷ st),
-  (λ v. k (prim.SomeOf p v.0, v.1.1)),
-  passes_to APrim token.Something a b0 p st (Exactly mark.OpenRound ∷ AnExpr ∷ Exactly mark.CloseRound ∷ st) (λ v. (prim.SomeOf p v.1.0, v.1.1.1)) h q refl k
-      ∙ g0 (AnExpr ∷ Exactly mark.CloseRound ∷ st) (λ v. k (prim.SomeOf p v.1.0, v.1.1.1)),
-)) z
-
-pub stops_some_2 : (a b0 b1 b2 : Ahead) (p : Place) (x1 : Expr) (e : SyntaxFault) → head a.left ≡ Some token.Something → Passes a p b0 → Gives (Exactly mark.OpenRound) b0 tt b1 → Gives AnExpr b1 x1 b2 → Stops (Exactly mark.CloseRound) b2 e → Stops APrim a e
-unfolding Gives
-stops_some_2 a b0 b1 b2 p x1 e h q g0 g1 z = stops_by APrim (Exactly mark.CloseRound) a b2 e (λ st k. (
-  (st),
-  (λ v. k (prim.SomeOf p x1, v.1)),
-  passes_to APrim token.Something a b0 p st (Exactly mark.OpenRound ∷ AnExpr ∷ Exactly mark.CloseRound ∷ st) (λ v. (prim.SomeOf p v.1.0, v.1.1.1)) h q refl k
-      ∙ g0 (AnExpr ∷ Exactly mark.CloseRound ∷ st) (λ v. k (prim.SomeOf p v.1.0, v.1.1.1))
-      ∙ g1 (Exactly mark.CloseRound ∷ st) (λ v. k (prim.SomeOf p v.0, v.1.1)),
-)) z
-
-pub ruleset steps_some = (gives_some, halts_some, stops_some_0, stops_some_1, stops_some_2, memory, reads_ok, reads_err)
-
-pub gives_group : (a b0 b1 b2 : Ahead) (p : Place) (x0 : Expr) → head a.left ≡ Some token.OpenRound → Passes a p b0 → Gives AnExpr b0 x0 b1 → Gives (Exactly mark.CloseRound) b1 tt b2 → Gives APrim a (prim.Group p x0) b2
-unfolding Gives
-gives_group a b0 b1 b2 p x0 h q g0 g1 = λ st k.
-    passes_to APrim token.OpenRound a b0 p st (AnExpr ∷ Exactly mark.CloseRound ∷ st) (λ v. (prim.Group p v.0, v.1.1)) h q refl k
-    ∙ g0 (Exactly mark.CloseRound ∷ st) (λ v. k (prim.Group p v.0, v.1.1))
-    ∙ g1 (st) (λ v. k (prim.Group p x0, v.1))
-
-pub halts_group : (a : Ahead) (e : SyntaxFault) → head a.left ≡ Some token.OpenRound → Halts a e → Stops APrim a e
-halts_group a e h q = halts_at APrim token.OpenRound a e h q (λ p st. ((AnExpr ∷ Exactly mark.CloseRound ∷ st), (λ v. (prim.Group p v.0, v.1.1)), refl))
-
-pub stops_group_0 : (a b0 : Ahead) (p : Place) (e : SyntaxFault) → head a.left ≡ Some token.OpenRound → Passes a p b0 → Stops AnExpr b0 e → Stops APrim a e
-stops_group_0 a b0 p e h q z = stops_by APrim AnExpr a b0 e (λ st k. (
-  (Exactly mark.CloseRound ∷ st),
-  (λ v. k (prim.Group p v.0, v.1.1)),
-  passes_to APrim token.OpenRound a b0 p st (AnExpr ∷ Exactly mark.CloseRound ∷ st) (λ v. (prim.Group p v.0, v.1.1)) h q refl k,
-)) z
-
-pub stops_group_1 : (a b0 b1 : Ahead) (p : Place) (x0 : Expr) (e : SyntaxFault) → head a.left ≡ Some token.OpenRound → Passes a p b0 → Gives AnExpr b0 x0 b1 → Stops (Exactly mark.CloseRound) b1 e → Stops APrim a e
-unfolding Gives
-stops_group_1 a b0 b1 p x0 e h q g0 z = stops_by APrim (Exactly mark.CloseRound) a b1 e (λ st k. (
-  (st),
-  (λ v. k (prim.Group p x0, v.1)),
-  passes_to APrim token.OpenRound a b0 p st (AnExpr ∷ Exactly mark.CloseRound ∷ st) (λ v. (prim.Group p v.0, v.1.1)) h q refl k
-      ∙ g0 (Exactly mark.CloseRound ∷ st) (λ v. k (prim.Group p v.0, v.1.1)),
-)) z
-
-pub ruleset steps_group = (gives_group, halts_group, stops_group_0, stops_group_1, memory, reads_ok, reads_err)
-
-pub gives_key : (a b0 b1 b2 : Ahead) (p : Place) (x0 : Expr) → head a.left ≡ Some token.OpenSquare → Passes a p b0 → Gives AnExpr b0 x0 b1 → Gives (Exactly mark.CloseSquare) b1 tt b2 → Gives BehindName a (after.Key x0) b2
-unfolding Gives
-gives_key a b0 b1 b2 p x0 h q g0 g1 = λ st k.
-    passes_to BehindName token.OpenSquare a b0 p st (AnExpr ∷ Exactly mark.CloseSquare ∷ st) (λ v. (after.Key v.0, v.1.1)) h q refl k
-    ∙ g0 (Exactly mark.CloseSquare ∷ st) (λ v. k (after.Key v.0, v.1.1))
-    ∙ g1 (st) (λ v. k (after.Key x0, v.1))
-
-pub halts_key : (a : Ahead) (e : SyntaxFault) → head a.left ≡ Some token.OpenSquare → Halts a e → Stops BehindName a e
-halts_key a e h q = halts_at BehindName token.OpenSquare a e h q (λ p st. ((AnExpr ∷ Exactly mark.CloseSquare ∷ st), (λ v. (after.Key v.0, v.1.1)), refl))
-
-pub stops_key_0 : (a b0 : Ahead) (p : Place) (e : SyntaxFault) → head a.left ≡ Some token.OpenSquare → Passes a p b0 → Stops AnExpr b0 e → Stops BehindName a e
-stops_key_0 a b0 p e h q z = stops_by BehindName AnExpr a b0 e (λ st k. (
-  (Exactly mark.CloseSquare ∷ st),
-  (λ v. k (after.Key v.0, v.1.1)),
-  passes_to BehindName token.OpenSquare a b0 p st (AnExpr ∷ Exactly mark.CloseSquare ∷ st) (λ v. (after.Key v.0, v.1.1)) h q refl k,
-)) z
-
-pub stops_key_1 : (a b0 b1 : Ahead) (p : Place) (x0 : Expr) (e : SyntaxFault) → head a.left ≡ Some token.OpenSquare → Passes a p b0 → Gives AnExpr b0 x0 b1 → Stops (Exactly mark.CloseSquare) b1 e → Stops BehindName a e
-unfolding Gives
-stops_key_1 a b0 b1 p x0 e h q g0 z = stops_by BehindName (Exactly mark.CloseSquare) a b1 e (λ st k. (
-  (st),
-  (λ v. k (after.Key x0, v.1)),
-  passes_to BehindName token.OpenSquare a b0 p st (AnExpr ∷ Exactly mark.CloseSquare ∷ st) (λ v. (after.Key v.0, v.1.1)) h q refl k
-      ∙ g0 (Exactly mark.CloseSquare ∷ st) (λ v. k (after.Key v.0, v.1.1)),
-)) z
-
-pub ruleset steps_key = (gives_key, halts_key, stops_key_0, stops_key_1, memory, reads_ok, reads_err)
-
-pub gives_arguments : (a b0 b1 : Ahead) (p : Place) (x0 : List Expr) → head a.left ≡ Some token.OpenRound → Passes a p b0 → Gives Args b0 x0 b1 → Gives BehindName a (after.Args x0) b1
-unfolding Gives
-gives_arguments a b0 b1 p x0 h q g0 = λ st k.
-    passes_to BehindName token.OpenRound a b0 p st (Args ∷ st) (λ v. (after.Args v.0, v.1)) h q refl k
-    ∙ g0 (st) (λ v. k (after.Args v.0, v.1))
-
-pub halts_arguments : (a : Ahead) (e : SyntaxFault) → head a.left ≡ Some token.OpenRound → Halts a e → Stops BehindName a e
-halts_arguments a e h q = halts_at BehindName token.OpenRound a e h q (λ p st. ((Args ∷ st), (λ v. (after.Args v.0, v.1)), refl))
-
-pub stops_arguments_0 : (a b0 : Ahead) (p : Place) (e : SyntaxFault) → head a.left ≡ Some token.OpenRound → Passes a p b0 → Stops Args b0 e → Stops BehindName a e
-stops_arguments_0 a b0 p e h q z = stops_by BehindName Args a b0 e (λ st k. (
-  (st),
-  (λ v. k (after.Args v.0, v.1)),
-  passes_to BehindName token.OpenRound a b0 p st (Args ∷ st) (λ v. (after.Args v.0, v.1)) h q refl k,
-)) z
-
-pub ruleset steps_arguments = (gives_arguments, halts_arguments, stops_arguments_0, memory, reads_ok, reads_err)
-
-pub gives_no_args : (a b0 : Ahead) (p : Place) → head a.left ≡ Some token.CloseRound → Passes a p b0 → Gives Args a [] b0
-unfolding Gives
-gives_no_args a b0 p h q = λ st k.
-    passes_to Args token.CloseRound a b0 p st (st) (λ v. ([], v)) h q refl k
-
-pub halts_no_args : (a : Ahead) (e : SyntaxFault) → head a.left ≡ Some token.CloseRound → Halts a e → Stops Args a e
-halts_no_args a e h q = halts_at Args token.CloseRound a e h q (λ p st. ((st), (λ v. ([], v)), refl))
-
-pub ruleset steps_no_args = (gives_no_args, halts_no_args, memory, reads_ok, reads_err)
-
-at_some_args : (o : Option Token) (p : Place) (st : Stack) → no_close_round o ≡ true → m.args_at o p st ≡ mapped (λ v. (v.0 ∷ v.1.0, v.1.1.1)) (m.expr_at o p (MoreArgs ∷ Exactly mark.CloseRound ∷ st))
-at_some_args (Some token.CloseRound) p st h = cc
-at_some_args o p st h = refl
-
-open_some_args : (b : Ahead) (st : Stack) (k : Values (Args ∷ st) → Tree) → no_close_round (head b.left) ≡ true → reading b.opened (Args ∷ st) k b.left ≡ reading b.opened (AnExpr ∷ MoreArgs ∷ Exactly mark.CloseRound ∷ st) (λ v. k (v.0 ∷ v.1.0, v.1.1.1)) b.left
-open_some_args b st k w = same_read b.opened (AnExpr ∷ MoreArgs ∷ Exactly mark.CloseRound ∷ st) (Args ∷ st) (λ v. (v.0 ∷ v.1.0, v.1.1.1)) k b.left (at_some_args (head b.left) (place_of b.left) st w)
-
-pub gives_some_args : (b0 b1 b2 b3 : Ahead) (x0 : Expr) (x1 : List Expr) → no_close_round (head b0.left) ≡ true → Gives AnExpr b0 x0 b1 → Gives MoreArgs b1 x1 b2 → Gives (Exactly mark.CloseRound) b2 tt b3 → Gives Args b0 (x0 ∷ x1) b3
-unfolding Gives
-gives_some_args b0 b1 b2 b3 x0 x1 w g0 g1 g2 = λ st k.
-    open_some_args b0 st k w
-    ∙ g0 (MoreArgs ∷ Exactly mark.CloseRound ∷ st) (λ v. k (v.0 ∷ v.1.0, v.1.1.1))
-    ∙ g1 (Exactly mark.CloseRound ∷ st) (λ v. k (x0 ∷ v.0, v.1.1))
-    ∙ g2 (st) (λ v. k (x0 ∷ x1, v.1))
-
-pub stops_some_args_0 : (b0 : Ahead) (e : SyntaxFault) → no_close_round (head b0.left) ≡ true → Stops AnExpr b0 e → Stops Args b0 e
-stops_some_args_0 b0 e w z = stops_by Args AnExpr b0 b0 e (λ st k. (
-  (MoreArgs ∷ Exactly mark.CloseRound ∷ st),
-  (λ v. k (v.0 ∷ v.1.0, v.1.1.1)),
-  open_some_args b0 st k w,
-)) z
-
-pub stops_some_args_1 : (b0 b1 : Ahead) (x0 : Expr) (e : SyntaxFault) → no_close_round (head b0.left) ≡ true → Gives AnExpr b0 x0 b1 → Stops MoreArgs b1 e → Stops Args b0 e
-unfolding Gives
-stops_some_args_1 b0 b1 x0 e w g0 z = stops_by Args MoreArgs b0 b1 e (λ st k. (
-  (Exactly mark.CloseRound ∷ st),
-  (λ v. k (x0 ∷ v.0, v.1.1)),
-  open_some_args b0 st k w
-      ∙ g0 (MoreArgs ∷ Exactly mark.CloseRound ∷ st) (λ v. k (v.0 ∷ v.1.0, v.1.1.1)),
-)) z
-
-pub stops_some_args_2 : (b0 b1 b2 : Ahead) (x0 : Expr) (x1 : List Expr) (e : SyntaxFault) → no_close_round (head b0.left) ≡ true → Gives AnExpr b0 x0 b1 → Gives MoreArgs b1 x1 b2 → Stops (Exactly mark.CloseRound) b2 e → Stops Args b0 e
-unfolding Gives
-stops_some_args_2 b0 b1 b2 x0 x1 e w g0 g1 z = stops_by Args (Exactly mark.CloseRound) b0 b2 e (λ st k. (
-  (st),
-  (λ v. k (x0 ∷ x1, v.1)),
-  open_some_args b0 st k w
-      ∙ g0 (MoreArgs ∷ Exactly mark.CloseRound ∷ st) (λ v. k (v.0 ∷ v.1.0, v.1.1.1))
-      ∙ g1 (Exactly mark.CloseRound ∷ st) (λ v. k (x0 ∷ v.0, v.1.1)),
-)) z
-
-pub ruleset steps_some_args = (gives_some_args, stops_some_args_0, stops_some_args_1, stops_some_args_2, memory, reads_ok, reads_err)
-
-open_set : (b : Ahead) (p : Place) (st : Stack) (k : Values (ASet ∷ st) → Tree) → place_of b.left ≡ p → reading b.opened (ASet ∷ st) k b.left ≡ reading b.opened (AName ∷ Exactly mark.Colon ∷ AnExpr ∷ st) (λ v. k (set_of p v.0 v.1.1.0, v.1.1.1)) b.left
-open_set b p st k q = same_read b.opened (AName ∷ Exactly mark.Colon ∷ AnExpr ∷ st) (ASet ∷ st) (λ v. (set_of (place_of b.left) v.0 v.1.1.0, v.1.1.1)) k b.left (refl) ∙ ap (λ p. reading b.opened (AName ∷ Exactly mark.Colon ∷ AnExpr ∷ st) (λ v. k (set_of p v.0 v.1.1.0, v.1.1.1)) b.left) q
-
-pub gives_set : (b0 b1 b2 b3 : Ahead) (p : Place) (x0 : List ℕ) (x2 : Expr) → place_of b0.left ≡ p → Gives AName b0 x0 b1 → Gives (Exactly mark.Colon) b1 tt b2 → Gives AnExpr b2 x2 b3 → Gives ASet b0 (set_of p x0 x2) b3
-unfolding Gives
-gives_set b0 b1 b2 b3 p x0 x2 q g0 g1 g2 = λ st k.
-    open_set b0 p st k q
-    ∙ g0 (Exactly mark.Colon ∷ AnExpr ∷ st) (λ v. k (set_of p v.0 v.1.1.0, v.1.1.1))
-    ∙ g1 (AnExpr ∷ st) (λ v. k (set_of p x0 v.1.0, v.1.1))
-    ∙ g2 (st) (λ v. k (set_of p x0 v.0, v.1))
-
-pub stops_set_0 : (b0 : Ahead) (p : Place) (e : SyntaxFault) → place_of b0.left ≡ p → Stops AName b0 e → Stops ASet b0 e
-stops_set_0 b0 p e q z = stops_by ASet AName b0 b0 e (λ st k. (
-  (Exactly mark.Colon ∷ AnExpr ∷ st),
-  (λ v. k (set_of p v.0 v.1.1.0, v.1.1.1)),
-  open_set b0 p st k q,
-)) z
-
-pub stops_set_1 : (b0 b1 : Ahead) (p : Place) (x0 : List ℕ) (e : SyntaxFault) → place_of b0.left ≡ p → Gives AName b0 x0 b1 → Stops (Exactly mark.Colon) b1 e → Stops ASet b0 e
-unfolding Gives
-stops_set_1 b0 b1 p x0 e q g0 z = stops_by ASet (Exactly mark.Colon) b0 b1 e (λ st k. (
-  (AnExpr ∷ st),
-  (λ v. k (set_of p x0 v.1.0, v.1.1)),
-  open_set b0 p st k q
-      ∙ g0 (Exactly mark.Colon ∷ AnExpr ∷ st) (λ v. k (set_of p v.0 v.1.1.0, v.1.1.1)),
-)) z
-
-pub stops_set_2 : (b0 b1 b2 : Ahead) (p : Place) (x0 : List ℕ) (e : SyntaxFault) → place_of b0.left ≡ p → Gives AName b0 x0 b1 → Gives (Exactly mark.Colon) b1 tt b2 → Stops AnExpr b2 e → Stops ASet b0 e
-unfolding Gives
-stops_set_2 b0 b1 b2 p x0 e q g0 g1 z = stops_by ASet AnExpr b0 b2 e (λ st k. (
-  (st),
-  (λ v. k (set_of p x0 v.0, v.1)),
-  open_set b0 p st k q
-      ∙ g0 (Exactly mark.Colon ∷ AnExpr ∷ st) (λ v. k (set_of p v.0 v.1.1.0, v.1.1.1))
-      ∙ g1 (AnExpr ∷ st) (λ v. k (set_of p x0 v.1.0, v.1.1)),
-)) z
-
-pub ruleset steps_set = (gives_set, stops_set_0, stops_set_1, stops_set_2, memory, reads_ok, reads_err)
-
-pub gives_with : (a b0 b1 b2 b3 b4 : Ahead) (p : Place) (x1 : Set) (x2 : List Set) → head a.left ≡ Some token.With → Passes a p b0 → Gives (Exactly mark.OpenCurly) b0 tt b1 → Gives ASet b1 x1 b2 → Gives MoreSets b2 x2 b3 → Gives (Exactly mark.CloseCurly) b3 tt b4 → Gives With a (x1 ∷ x2) b4
+pub gives_with : (a b0 b1 b2 b3 b4 : Ahead) (p : Place) (x1 : Set) (x2 : List Set) → head a.left ≡ Some token.With
+    → Passes a p b0 → Gives (Exactly mark.OpenCurly) b0 tt b1 → Gives ASet b1 x1 b2 → Gives MoreSets b2 x2 b3
+    → Gives (Exactly mark.CloseCurly) b3 tt b4 → Gives With a (x1 ∷ x2) b4
 unfolding Gives
 gives_with a b0 b1 b2 b3 b4 p x1 x2 h q g0 g1 g2 g3 = λ st k.
-    passes_to With token.With a b0 p st (Exactly mark.OpenCurly ∷ ASet ∷ MoreSets ∷ Exactly mark.CloseCurly ∷ st) (λ v. (v.1.0 ∷ v.1.1.0, v.1.1.1.1)) h q refl k
+    passes_to With token.With a b0 p st (Exactly mark.OpenCurly ∷ ASet ∷ MoreSets ∷ Exactly mark.CloseCurly ∷ st)
+    (λ v. (v.1.0 ∷ v.1.1.0, v.1.1.1.1)) h q refl k
     ∙ g0 (ASet ∷ MoreSets ∷ Exactly mark.CloseCurly ∷ st) (λ v. k (v.1.0 ∷ v.1.1.0, v.1.1.1.1))
     ∙ g1 (MoreSets ∷ Exactly mark.CloseCurly ∷ st) (λ v. k (v.0 ∷ v.1.0, v.1.1.1))
     ∙ g2 (Exactly mark.CloseCurly ∷ st) (λ v. k (x1 ∷ v.0, v.1.1))
     ∙ g3 (st) (λ v. k (x1 ∷ x2, v.1))
 
 pub halts_with : (a : Ahead) (e : SyntaxFault) → head a.left ≡ Some token.With → Halts a e → Stops With a e
-halts_with a e h q = halts_at With token.With a e h q (λ p st. ((Exactly mark.OpenCurly ∷ ASet ∷ MoreSets ∷ Exactly mark.CloseCurly ∷ st), (λ v. (v.1.0 ∷ v.1.1.0, v.1.1.1.1)), refl))
+halts_with a e h q = halts_at With token.With a e h q
+    (λ p st. (
+      (Exactly mark.OpenCurly ∷ ASet ∷ MoreSets ∷ Exactly mark.CloseCurly ∷ st),
+      (λ v. (v.1.0 ∷ v.1.1.0, v.1.1.1.1)),
+      refl,
+    ))
 
-pub stops_with_0 : (a b0 : Ahead) (p : Place) (e : SyntaxFault) → head a.left ≡ Some token.With → Passes a p b0 → Stops (Exactly mark.OpenCurly) b0 e → Stops With a e
+pub stops_with_0 : (a b0 : Ahead) (p : Place) (e : SyntaxFault) → head a.left ≡ Some token.With → Passes a p b0
+    → Stops (Exactly mark.OpenCurly) b0 e → Stops With a e
 stops_with_0 a b0 p e h q z = stops_by With (Exactly mark.OpenCurly) a b0 e (λ st k. (
   (ASet ∷ MoreSets ∷ Exactly mark.CloseCurly ∷ st),
   (λ v. k (v.1.0 ∷ v.1.1.0, v.1.1.1.1)),
-  passes_to With token.With a b0 p st (Exactly mark.OpenCurly ∷ ASet ∷ MoreSets ∷ Exactly mark.CloseCurly ∷ st) (λ v. (v.1.0 ∷ v.1.1.0, v.1.1.1.1)) h q refl k,
+  passes_to With token.With a b0 p st (Exactly mark.OpenCurly ∷ ASet ∷ MoreSets ∷ Exactly mark.CloseCurly ∷ st)
+      (λ v. (v.1.0 ∷ v.1.1.0, v.1.1.1.1)) h q refl k,
 )) z
 
-pub stops_with_1 : (a b0 b1 : Ahead) (p : Place) (e : SyntaxFault) → head a.left ≡ Some token.With → Passes a p b0 → Gives (Exactly mark.OpenCurly) b0 tt b1 → Stops ASet b1 e → Stops With a e
+pub stops_with_1 : (a b0 b1 : Ahead) (p : Place) (e : SyntaxFault) → head a.left ≡ Some token.With → Passes a p b0
+    → Gives (Exactly mark.OpenCurly) b0 tt b1 → Stops ASet b1 e → Stops With a e
 unfolding Gives
 stops_with_1 a b0 b1 p e h q g0 z = stops_by With ASet a b1 e (λ st k. (
   (MoreSets ∷ Exactly mark.CloseCurly ∷ st),
   (λ v. k (v.0 ∷ v.1.0, v.1.1.1)),
-  passes_to With token.With a b0 p st (Exactly mark.OpenCurly ∷ ASet ∷ MoreSets ∷ Exactly mark.CloseCurly ∷ st) (λ v. (v.1.0 ∷ v.1.1.0, v.1.1.1.1)) h q refl k
+  passes_to With token.With a b0 p st (Exactly mark.OpenCurly ∷ ASet ∷ MoreSets ∷ Exactly mark.CloseCurly ∷ st)
+      (λ v. (v.1.0 ∷ v.1.1.0, v.1.1.1.1)) h q refl k
       ∙ g0 (ASet ∷ MoreSets ∷ Exactly mark.CloseCurly ∷ st) (λ v. k (v.1.0 ∷ v.1.1.0, v.1.1.1.1)),
 )) z
 
-pub stops_with_2 : (a b0 b1 b2 : Ahead) (p : Place) (x1 : Set) (e : SyntaxFault) → head a.left ≡ Some token.With → Passes a p b0 → Gives (Exactly mark.OpenCurly) b0 tt b1 → Gives ASet b1 x1 b2 → Stops MoreSets b2 e → Stops With a e
+pub stops_with_2 : (a b0 b1 b2 : Ahead) (p : Place) (x1 : Set) (e : SyntaxFault) → head a.left ≡ Some token.With
+    → Passes a p b0 → Gives (Exactly mark.OpenCurly) b0 tt b1 → Gives ASet b1 x1 b2 → Stops MoreSets b2 e
+    → Stops With a e
 unfolding Gives
 stops_with_2 a b0 b1 b2 p x1 e h q g0 g1 z = stops_by With MoreSets a b2 e (λ st k. (
   (Exactly mark.CloseCurly ∷ st),
   (λ v. k (x1 ∷ v.0, v.1.1)),
-  passes_to With token.With a b0 p st (Exactly mark.OpenCurly ∷ ASet ∷ MoreSets ∷ Exactly mark.CloseCurly ∷ st) (λ v. (v.1.0 ∷ v.1.1.0, v.1.1.1.1)) h q refl k
+  passes_to With token.With a b0 p st (Exactly mark.OpenCurly ∷ ASet ∷ MoreSets ∷ Exactly mark.CloseCurly ∷ st)
+      (λ v. (v.1.0 ∷ v.1.1.0, v.1.1.1.1)) h q refl k
       ∙ g0 (ASet ∷ MoreSets ∷ Exactly mark.CloseCurly ∷ st) (λ v. k (v.1.0 ∷ v.1.1.0, v.1.1.1.1))
       ∙ g1 (MoreSets ∷ Exactly mark.CloseCurly ∷ st) (λ v. k (v.0 ∷ v.1.0, v.1.1.1)),
 )) z
 
-pub stops_with_3 : (a b0 b1 b2 b3 : Ahead) (p : Place) (x1 : Set) (x2 : List Set) (e : SyntaxFault) → head a.left ≡ Some token.With → Passes a p b0 → Gives (Exactly mark.OpenCurly) b0 tt b1 → Gives ASet b1 x1 b2 → Gives MoreSets b2 x2 b3 → Stops (Exactly mark.CloseCurly) b3 e → Stops With a e
+pub stops_with_3 : (a b0 b1 b2 b3 : Ahead) (p : Place) (x1 : Set) (x2 : List Set) (e : SyntaxFault)
+    → head a.left ≡ Some token.With → Passes a p b0 → Gives (Exactly mark.OpenCurly) b0 tt b1 → Gives ASet b1 x1 b2
+    → Gives MoreSets b2 x2 b3 → Stops (Exactly mark.CloseCurly) b3 e → Stops With a e
 unfolding Gives
 stops_with_3 a b0 b1 b2 b3 p x1 x2 e h q g0 g1 g2 z = stops_by With (Exactly mark.CloseCurly) a b3 e (λ st k. (
   (st),
   (λ v. k (x1 ∷ x2, v.1)),
-  passes_to With token.With a b0 p st (Exactly mark.OpenCurly ∷ ASet ∷ MoreSets ∷ Exactly mark.CloseCurly ∷ st) (λ v. (v.1.0 ∷ v.1.1.0, v.1.1.1.1)) h q refl k
+  passes_to With token.With a b0 p st (Exactly mark.OpenCurly ∷ ASet ∷ MoreSets ∷ Exactly mark.CloseCurly ∷ st)
+      (λ v. (v.1.0 ∷ v.1.1.0, v.1.1.1.1)) h q refl k
       ∙ g0 (ASet ∷ MoreSets ∷ Exactly mark.CloseCurly ∷ st) (λ v. k (v.1.0 ∷ v.1.1.0, v.1.1.1.1))
       ∙ g1 (MoreSets ∷ Exactly mark.CloseCurly ∷ st) (λ v. k (v.0 ∷ v.1.0, v.1.1.1))
       ∙ g2 (Exactly mark.CloseCurly ∷ st) (λ v. k (x1 ∷ v.0, v.1.1)),
 )) z
 
-pub ruleset steps_with = (gives_with, halts_with, stops_with_0, stops_with_1, stops_with_2, stops_with_3, memory, reads_ok, reads_err)
+pub ruleset steps_with = (
+  gives_with,
+  halts_with,
+  stops_with_0,
+  stops_with_1,
+  stops_with_2,
+  stops_with_3,
+  memory,
+  reads_ok,
+  reads_err,
+)
 
-open_post : (b : Ahead) (p : Place) (st : Stack) (k : Values (APost ∷ st) → Tree) → place_of b.left ≡ p → reading b.opened (APost ∷ st) k b.left ≡ reading b.opened (APrim ∷ Fields ∷ With ∷ st) (λ v. k (post_of p v.0 v.1.0 v.1.1.0, v.1.1.1)) b.left
-open_post b p st k q = same_read b.opened (APrim ∷ Fields ∷ With ∷ st) (APost ∷ st) (λ v. (post_of (place_of b.left) v.0 v.1.0 v.1.1.0, v.1.1.1)) k b.left (refl) ∙ ap (λ p. reading b.opened (APrim ∷ Fields ∷ With ∷ st) (λ v. k (post_of p v.0 v.1.0 v.1.1.0, v.1.1.1)) b.left) q
+open_post : (b : Ahead) (p : Place) (st : Stack) (k : Values (APost ∷ st) → Tree) → place_of b.left ≡ p
+    → reading b.opened (APost ∷ st) k b.left ≡ reading b.opened (APrim ∷ Fields ∷ With ∷ st)
+    (λ v. k (post_of p v.0 v.1.0 v.1.1.0, v.1.1.1)) b.left
+open_post b p st k q = same_read b.opened (APrim ∷ Fields ∷ With ∷ st) (APost ∷ st)
+    (λ v. (post_of (place_of b.left) v.0 v.1.0 v.1.1.0, v.1.1.1)) k b.left (refl)
+    ∙ ap (λ p. reading b.opened (APrim ∷ Fields ∷ With ∷ st) (λ v. k (post_of p v.0 v.1.0 v.1.1.0, v.1.1.1)) b.left) q
 
-pub gives_post : (b0 b1 b2 b3 : Ahead) (p : Place) (x0 : Primary) (x1 : List (List ℕ)) (x2 : List Set) → place_of b0.left ≡ p → Gives APrim b0 x0 b1 → Gives Fields b1 x1 b2 → Gives With b2 x2 b3 → Gives APost b0 (post_of p x0 x1 x2) b3
+pub gives_post : (b0 b1 b2 b3 : Ahead) (p : Place) (x0 : Primary) (x1 : List (List ℕ)) (x2 : List Set)
+    → place_of b0.left ≡ p → Gives APrim b0 x0 b1 → Gives Fields b1 x1 b2 → Gives With b2 x2 b3
+    → Gives APost b0 (post_of p x0 x1 x2) b3
 unfolding Gives
 gives_post b0 b1 b2 b3 p x0 x1 x2 q g0 g1 g2 = λ st k.
     open_post b0 p st k q
@@ -424,14 +127,16 @@ gives_post b0 b1 b2 b3 p x0 x1 x2 q g0 g1 g2 = λ st k.
     ∙ g1 (With ∷ st) (λ v. k (post_of p x0 v.0 v.1.0, v.1.1))
     ∙ g2 (st) (λ v. k (post_of p x0 x1 v.0, v.1))
 
-pub stops_post_0 : (b0 : Ahead) (p : Place) (e : SyntaxFault) → place_of b0.left ≡ p → Stops APrim b0 e → Stops APost b0 e
+pub stops_post_0 : (b0 : Ahead) (p : Place) (e : SyntaxFault) → place_of b0.left ≡ p → Stops APrim b0 e
+    → Stops APost b0 e
 stops_post_0 b0 p e q z = stops_by APost APrim b0 b0 e (λ st k. (
   (Fields ∷ With ∷ st),
   (λ v. k (post_of p v.0 v.1.0 v.1.1.0, v.1.1.1)),
   open_post b0 p st k q,
 )) z
 
-pub stops_post_1 : (b0 b1 : Ahead) (p : Place) (x0 : Primary) (e : SyntaxFault) → place_of b0.left ≡ p → Gives APrim b0 x0 b1 → Stops Fields b1 e → Stops APost b0 e
+pub stops_post_1 : (b0 b1 : Ahead) (p : Place) (x0 : Primary) (e : SyntaxFault) → place_of b0.left ≡ p
+    → Gives APrim b0 x0 b1 → Stops Fields b1 e → Stops APost b0 e
 unfolding Gives
 stops_post_1 b0 b1 p x0 e q g0 z = stops_by APost Fields b0 b1 e (λ st k. (
   (With ∷ st),
@@ -440,7 +145,8 @@ stops_post_1 b0 b1 p x0 e q g0 z = stops_by APost Fields b0 b1 e (λ st k. (
       ∙ g0 (Fields ∷ With ∷ st) (λ v. k (post_of p v.0 v.1.0 v.1.1.0, v.1.1.1)),
 )) z
 
-pub stops_post_2 : (b0 b1 b2 : Ahead) (p : Place) (x0 : Primary) (x1 : List (List ℕ)) (e : SyntaxFault) → place_of b0.left ≡ p → Gives APrim b0 x0 b1 → Gives Fields b1 x1 b2 → Stops With b2 e → Stops APost b0 e
+pub stops_post_2 : (b0 b1 b2 : Ahead) (p : Place) (x0 : Primary) (x1 : List (List ℕ)) (e : SyntaxFault)
+    → place_of b0.left ≡ p → Gives APrim b0 x0 b1 → Gives Fields b1 x1 b2 → Stops With b2 e → Stops APost b0 e
 unfolding Gives
 stops_post_2 b0 b1 b2 p x0 x1 e q g0 g1 z = stops_by APost With b0 b2 e (λ st k. (
   (st),
@@ -452,7 +158,8 @@ stops_post_2 b0 b1 b2 p x0 x1 e q g0 g1 z = stops_by APost With b0 b2 e (λ st k
 
 pub ruleset steps_post = (gives_post, stops_post_0, stops_post_1, stops_post_2, memory, reads_ok, reads_err)
 
-pub gives_not : (a b0 b1 : Ahead) (p : Place) (x0 : Post) → head a.left ≡ Some token.Not → Passes a p b0 → Gives APost b0 x0 b1 → Gives AUnary a (Not p x0) b1
+pub gives_not : (a b0 b1 : Ahead) (p : Place) (x0 : Post) → head a.left ≡ Some token.Not → Passes a p b0
+    → Gives APost b0 x0 b1 → Gives AUnary a (Not p x0) b1
 unfolding Gives
 gives_not a b0 b1 p x0 h q g0 = λ st k.
     passes_to AUnary token.Not a b0 p st (APost ∷ st) (λ v. (Not p v.0, v.1)) h q refl k
@@ -461,7 +168,8 @@ gives_not a b0 b1 p x0 h q g0 = λ st k.
 pub halts_not : (a : Ahead) (e : SyntaxFault) → head a.left ≡ Some token.Not → Halts a e → Stops AUnary a e
 halts_not a e h q = halts_at AUnary token.Not a e h q (λ p st. ((APost ∷ st), (λ v. (Not p v.0, v.1)), refl))
 
-pub stops_not_0 : (a b0 : Ahead) (p : Place) (e : SyntaxFault) → head a.left ≡ Some token.Not → Passes a p b0 → Stops APost b0 e → Stops AUnary a e
+pub stops_not_0 : (a b0 : Ahead) (p : Place) (e : SyntaxFault) → head a.left ≡ Some token.Not → Passes a p b0
+    → Stops APost b0 e → Stops AUnary a e
 stops_not_0 a b0 p e h q z = stops_by AUnary APost a b0 e (λ st k. (
   (st),
   (λ v. k (Not p v.0, v.1)),
@@ -470,20 +178,27 @@ stops_not_0 a b0 p e h q z = stops_by AUnary APost a b0 e (λ st k. (
 
 pub ruleset steps_not = (gives_not, halts_not, stops_not_0, memory, reads_ok, reads_err)
 
-at_bare : (o : Option Token) (p : Place) (st : Stack) → no_not o ≡ true → m.unary_at o p st ≡ mapped (λ v. (Bare p v.0, v.1)) (m.post_at o p (st))
+at_bare : (o : Option Token) (p : Place) (st : Stack) → no_not o ≡ true
+    → m.unary_at o p st ≡ mapped (λ v. (Bare p v.0, v.1)) (m.post_at o p (st))
 at_bare (Some token.Not) p st h = cc
 at_bare o p st h = refl
 
-open_bare : (b : Ahead) (p : Place) (st : Stack) (k : Values (AUnary ∷ st) → Tree) → place_of b.left ≡ p → no_not (head b.left) ≡ true → reading b.opened (AUnary ∷ st) k b.left ≡ reading b.opened (APost ∷ st) (λ v. k (Bare p v.0, v.1)) b.left
-open_bare b p st k q w = same_read b.opened (APost ∷ st) (AUnary ∷ st) (λ v. (Bare (place_of b.left) v.0, v.1)) k b.left (at_bare (head b.left) (place_of b.left) st w) ∙ ap (λ p. reading b.opened (APost ∷ st) (λ v. k (Bare p v.0, v.1)) b.left) q
+open_bare : (b : Ahead) (p : Place) (st : Stack) (k : Values (AUnary ∷ st) → Tree) → place_of b.left ≡ p
+    → no_not (head b.left) ≡ true → reading b.opened (AUnary ∷ st) k b.left ≡ reading b.opened (APost ∷ st)
+    (λ v. k (Bare p v.0, v.1)) b.left
+open_bare b p st k q w = same_read b.opened (APost ∷ st) (AUnary ∷ st) (λ v. (Bare (place_of b.left) v.0, v.1))
+    k b.left (at_bare (head b.left) (place_of b.left) st w)
+    ∙ ap (λ p. reading b.opened (APost ∷ st) (λ v. k (Bare p v.0, v.1)) b.left) q
 
-pub gives_bare : (b0 b1 : Ahead) (p : Place) (x0 : Post) → place_of b0.left ≡ p → no_not (head b0.left) ≡ true → Gives APost b0 x0 b1 → Gives AUnary b0 (Bare p x0) b1
+pub gives_bare : (b0 b1 : Ahead) (p : Place) (x0 : Post) → place_of b0.left ≡ p → no_not (head b0.left) ≡ true
+    → Gives APost b0 x0 b1 → Gives AUnary b0 (Bare p x0) b1
 unfolding Gives
 gives_bare b0 b1 p x0 q w g0 = λ st k.
     open_bare b0 p st k q w
     ∙ g0 (st) (λ v. k (Bare p v.0, v.1))
 
-pub stops_bare_0 : (b0 : Ahead) (p : Place) (e : SyntaxFault) → place_of b0.left ≡ p → no_not (head b0.left) ≡ true → Stops APost b0 e → Stops AUnary b0 e
+pub stops_bare_0 : (b0 : Ahead) (p : Place) (e : SyntaxFault) → place_of b0.left ≡ p → no_not (head b0.left) ≡ true
+    → Stops APost b0 e → Stops AUnary b0 e
 stops_bare_0 b0 p e q w z = stops_by AUnary APost b0 b0 e (λ st k. (
   (st),
   (λ v. k (Bare p v.0, v.1)),
@@ -492,16 +207,22 @@ stops_bare_0 b0 p e q w z = stops_by AUnary APost b0 b0 e (λ st k. (
 
 pub ruleset steps_bare = (gives_bare, stops_bare_0, memory, reads_ok, reads_err)
 
-pub gives_plus : (a b0 b1 : Ahead) (p : Place) (x0 : ℕ) → head a.left ≡ Some token.Plus → Passes a p b0 → Gives ANumber b0 x0 b1 → Gives AnOffset a (offset.Plus x0) b1
+pub gives_plus : (a b0 b1 : Ahead) (p : Place) (x0 : ℕ) → head a.left ≡ Some token.Plus → Passes a p b0
+    → Gives ANumber b0 x0 b1 → Gives AnOffset a (offset.Plus x0) b1
 unfolding Gives
 gives_plus a b0 b1 p x0 h q g0 = λ st k.
     passes_to AnOffset token.Plus a b0 p st (ANumber ∷ st) (λ v. (offset.Plus v.0, v.1)) h q refl k
     ∙ g0 (st) (λ v. k (offset.Plus v.0, v.1))
 
 pub halts_plus : (a : Ahead) (e : SyntaxFault) → head a.left ≡ Some token.Plus → Halts a e → Stops AnOffset a e
-halts_plus a e h q = halts_at AnOffset token.Plus a e h q (λ p st. ((ANumber ∷ st), (λ v. (offset.Plus v.0, v.1)), refl))
+halts_plus a e h q = halts_at AnOffset token.Plus a e h q (λ p st. (
+  (ANumber ∷ st),
+  (λ v. (offset.Plus v.0, v.1)),
+  refl,
+))
 
-pub stops_plus_0 : (a b0 : Ahead) (p : Place) (e : SyntaxFault) → head a.left ≡ Some token.Plus → Passes a p b0 → Stops ANumber b0 e → Stops AnOffset a e
+pub stops_plus_0 : (a b0 : Ahead) (p : Place) (e : SyntaxFault) → head a.left ≡ Some token.Plus → Passes a p b0
+    → Stops ANumber b0 e → Stops AnOffset a e
 stops_plus_0 a b0 p e h q z = stops_by AnOffset ANumber a b0 e (λ st k. (
   (st),
   (λ v. k (offset.Plus v.0, v.1)),
@@ -510,16 +231,22 @@ stops_plus_0 a b0 p e h q z = stops_by AnOffset ANumber a b0 e (λ st k. (
 
 pub ruleset steps_plus = (gives_plus, halts_plus, stops_plus_0, memory, reads_ok, reads_err)
 
-pub gives_minus : (a b0 b1 : Ahead) (p : Place) (x0 : ℕ) → head a.left ≡ Some token.Minus → Passes a p b0 → Gives ANumber b0 x0 b1 → Gives AnOffset a (offset.Minus x0) b1
+pub gives_minus : (a b0 b1 : Ahead) (p : Place) (x0 : ℕ) → head a.left ≡ Some token.Minus → Passes a p b0
+    → Gives ANumber b0 x0 b1 → Gives AnOffset a (offset.Minus x0) b1
 unfolding Gives
 gives_minus a b0 b1 p x0 h q g0 = λ st k.
     passes_to AnOffset token.Minus a b0 p st (ANumber ∷ st) (λ v. (offset.Minus v.0, v.1)) h q refl k
     ∙ g0 (st) (λ v. k (offset.Minus v.0, v.1))
 
 pub halts_minus : (a : Ahead) (e : SyntaxFault) → head a.left ≡ Some token.Minus → Halts a e → Stops AnOffset a e
-halts_minus a e h q = halts_at AnOffset token.Minus a e h q (λ p st. ((ANumber ∷ st), (λ v. (offset.Minus v.0, v.1)), refl))
+halts_minus a e h q = halts_at AnOffset token.Minus a e h q (λ p st. (
+  (ANumber ∷ st),
+  (λ v. (offset.Minus v.0, v.1)),
+  refl,
+))
 
-pub stops_minus_0 : (a b0 : Ahead) (p : Place) (e : SyntaxFault) → head a.left ≡ Some token.Minus → Passes a p b0 → Stops ANumber b0 e → Stops AnOffset a e
+pub stops_minus_0 : (a b0 : Ahead) (p : Place) (e : SyntaxFault) → head a.left ≡ Some token.Minus → Passes a p b0
+    → Stops ANumber b0 e → Stops AnOffset a e
 stops_minus_0 a b0 p e h q z = stops_by AnOffset ANumber a b0 e (λ st k. (
   (st),
   (λ v. k (offset.Minus v.0, v.1)),
@@ -528,24 +255,33 @@ stops_minus_0 a b0 p e h q z = stops_by AnOffset ANumber a b0 e (λ st k. (
 
 pub ruleset steps_minus = (gives_minus, halts_minus, stops_minus_0, memory, reads_ok, reads_err)
 
-open_sum : (b : Ahead) (p : Place) (st : Stack) (k : Values (ASum ∷ st) → Tree) → place_of b.left ≡ p → reading b.opened (ASum ∷ st) k b.left ≡ reading b.opened (AUnary ∷ AnOffset ∷ st) (λ v. k (sum_of p v.0 v.1.0, v.1.1)) b.left
-open_sum b p st k q = same_read b.opened (AUnary ∷ AnOffset ∷ st) (ASum ∷ st) (λ v. (sum_of (place_of b.left) v.0 v.1.0, v.1.1)) k b.left (refl) ∙ ap (λ p. reading b.opened (AUnary ∷ AnOffset ∷ st) (λ v. k (sum_of p v.0 v.1.0, v.1.1)) b.left) q
+open_sum : (b : Ahead) (p : Place) (st : Stack) (k : Values (ASum ∷ st) → Tree) → place_of b.left ≡ p
+    → reading b.opened (ASum ∷ st) k b.left ≡ reading b.opened (AUnary ∷ AnOffset ∷ st)
+    (λ v. k (sum_of p v.0 v.1.0, v.1.1)) b.left
+open_sum b p st k q = same_read b.opened (AUnary ∷ AnOffset ∷ st) (ASum ∷ st) (λ v. (
+  sum_of (place_of b.left) v.0 v.1.0,
+  v.1.1,
+)) k b.left (refl) ∙ ap (λ p. reading b.opened (AUnary ∷ AnOffset ∷ st) (λ v. k (sum_of p v.0 v.1.0, v.1.1))
+    b.left) q
 
-pub gives_sum : (b0 b1 b2 : Ahead) (p : Place) (x0 : Unary) (x1 : Offset) → place_of b0.left ≡ p → Gives AUnary b0 x0 b1 → Gives AnOffset b1 x1 b2 → Gives ASum b0 (sum_of p x0 x1) b2
+pub gives_sum : (b0 b1 b2 : Ahead) (p : Place) (x0 : Unary) (x1 : Offset) → place_of b0.left ≡ p → Gives AUnary b0 x0 b1
+    → Gives AnOffset b1 x1 b2 → Gives ASum b0 (sum_of p x0 x1) b2
 unfolding Gives
 gives_sum b0 b1 b2 p x0 x1 q g0 g1 = λ st k.
     open_sum b0 p st k q
     ∙ g0 (AnOffset ∷ st) (λ v. k (sum_of p v.0 v.1.0, v.1.1))
     ∙ g1 (st) (λ v. k (sum_of p x0 v.0, v.1))
 
-pub stops_sum_0 : (b0 : Ahead) (p : Place) (e : SyntaxFault) → place_of b0.left ≡ p → Stops AUnary b0 e → Stops ASum b0 e
+pub stops_sum_0 : (b0 : Ahead) (p : Place) (e : SyntaxFault) → place_of b0.left ≡ p → Stops AUnary b0 e
+    → Stops ASum b0 e
 stops_sum_0 b0 p e q z = stops_by ASum AUnary b0 b0 e (λ st k. (
   (AnOffset ∷ st),
   (λ v. k (sum_of p v.0 v.1.0, v.1.1)),
   open_sum b0 p st k q,
 )) z
 
-pub stops_sum_1 : (b0 b1 : Ahead) (p : Place) (x0 : Unary) (e : SyntaxFault) → place_of b0.left ≡ p → Gives AUnary b0 x0 b1 → Stops AnOffset b1 e → Stops ASum b0 e
+pub stops_sum_1 : (b0 b1 : Ahead) (p : Place) (x0 : Unary) (e : SyntaxFault) → place_of b0.left ≡ p
+    → Gives AUnary b0 x0 b1 → Stops AnOffset b1 e → Stops ASum b0 e
 unfolding Gives
 stops_sum_1 b0 b1 p x0 e q g0 z = stops_by ASum AnOffset b0 b1 e (λ st k. (
   (st),
@@ -556,10 +292,17 @@ stops_sum_1 b0 b1 p x0 e q g0 z = stops_by ASum AnOffset b0 b1 e (λ st k. (
 
 pub ruleset steps_sum = (gives_sum, stops_sum_0, stops_sum_1, memory, reads_ok, reads_err)
 
-open_cmp : (b : Ahead) (p : Place) (st : Stack) (k : Values (ACmp ∷ st) → Tree) → place_of b.left ≡ p → reading b.opened (ACmp ∷ st) k b.left ≡ reading b.opened (ASum ∷ Right ∷ st) (λ v. k (cmp_of p v.0 v.1.0, v.1.1)) b.left
-open_cmp b p st k q = same_read b.opened (ASum ∷ Right ∷ st) (ACmp ∷ st) (λ v. (cmp_of (place_of b.left) v.0 v.1.0, v.1.1)) k b.left (refl) ∙ ap (λ p. reading b.opened (ASum ∷ Right ∷ st) (λ v. k (cmp_of p v.0 v.1.0, v.1.1)) b.left) q
+open_cmp : (b : Ahead) (p : Place) (st : Stack) (k : Values (ACmp ∷ st) → Tree) → place_of b.left ≡ p
+    → reading b.opened (ACmp ∷ st) k b.left ≡ reading b.opened (ASum ∷ Right ∷ st) (λ v. k (cmp_of p v.0 v.1.0, v.1.1))
+    b.left
+open_cmp b p st k q = same_read b.opened (ASum ∷ Right ∷ st) (ACmp ∷ st) (λ v. (
+  cmp_of (place_of b.left) v.0 v.1.0,
+  v.1.1,
+)) k b.left (refl) ∙ ap (λ p. reading b.opened (ASum ∷ Right ∷ st) (λ v. k (cmp_of p v.0 v.1.0, v.1.1)) b.left)
+    q
 
-pub gives_cmp : (b0 b1 b2 : Ahead) (p : Place) (x0 : Sum) (x1 : RightSide) → place_of b0.left ≡ p → Gives ASum b0 x0 b1 → Gives Right b1 x1 b2 → Gives ACmp b0 (cmp_of p x0 x1) b2
+pub gives_cmp : (b0 b1 b2 : Ahead) (p : Place) (x0 : Sum) (x1 : RightSide) → place_of b0.left ≡ p → Gives ASum b0 x0 b1
+    → Gives Right b1 x1 b2 → Gives ACmp b0 (cmp_of p x0 x1) b2
 unfolding Gives
 gives_cmp b0 b1 b2 p x0 x1 q g0 g1 = λ st k.
     open_cmp b0 p st k q
@@ -573,7 +316,8 @@ stops_cmp_0 b0 p e q z = stops_by ACmp ASum b0 b0 e (λ st k. (
   open_cmp b0 p st k q,
 )) z
 
-pub stops_cmp_1 : (b0 b1 : Ahead) (p : Place) (x0 : Sum) (e : SyntaxFault) → place_of b0.left ≡ p → Gives ASum b0 x0 b1 → Stops Right b1 e → Stops ACmp b0 e
+pub stops_cmp_1 : (b0 b1 : Ahead) (p : Place) (x0 : Sum) (e : SyntaxFault) → place_of b0.left ≡ p → Gives ASum b0 x0 b1
+    → Stops Right b1 e → Stops ACmp b0 e
 unfolding Gives
 stops_cmp_1 b0 b1 p x0 e q g0 z = stops_by ACmp Right b0 b1 e (λ st k. (
   (st),
@@ -584,7 +328,8 @@ stops_cmp_1 b0 b1 p x0 e q g0 z = stops_by ACmp Right b0 b1 e (λ st k. (
 
 pub ruleset steps_cmp = (gives_cmp, stops_cmp_0, stops_cmp_1, memory, reads_ok, reads_err)
 
-pub gives_and : (a b0 b1 b2 : Ahead) (p : Place) (x0 : Cmp) (x1 : List Cmp) → head a.left ≡ Some token.And → Passes a p b0 → Gives ACmp b0 x0 b1 → Gives Ands b1 x1 b2 → Gives MoreCmps a (joined.And x0 x1) b2
+pub gives_and : (a b0 b1 b2 : Ahead) (p : Place) (x0 : Cmp) (x1 : List Cmp) → head a.left ≡ Some token.And
+    → Passes a p b0 → Gives ACmp b0 x0 b1 → Gives Ands b1 x1 b2 → Gives MoreCmps a (joined.And x0 x1) b2
 unfolding Gives
 gives_and a b0 b1 b2 p x0 x1 h q g0 g1 = λ st k.
     passes_to MoreCmps token.And a b0 p st (ACmp ∷ Ands ∷ st) (λ v. (joined.And v.0 v.1.0, v.1.1)) h q refl k
@@ -592,16 +337,22 @@ gives_and a b0 b1 b2 p x0 x1 h q g0 g1 = λ st k.
     ∙ g1 (st) (λ v. k (joined.And x0 v.0, v.1))
 
 pub halts_and : (a : Ahead) (e : SyntaxFault) → head a.left ≡ Some token.And → Halts a e → Stops MoreCmps a e
-halts_and a e h q = halts_at MoreCmps token.And a e h q (λ p st. ((ACmp ∷ Ands ∷ st), (λ v. (joined.And v.0 v.1.0, v.1.1)), refl))
+halts_and a e h q = halts_at MoreCmps token.And a e h q (λ p st. (
+  (ACmp ∷ Ands ∷ st),
+  (λ v. (joined.And v.0 v.1.0, v.1.1)),
+  refl,
+))
 
-pub stops_and_0 : (a b0 : Ahead) (p : Place) (e : SyntaxFault) → head a.left ≡ Some token.And → Passes a p b0 → Stops ACmp b0 e → Stops MoreCmps a e
+pub stops_and_0 : (a b0 : Ahead) (p : Place) (e : SyntaxFault) → head a.left ≡ Some token.And → Passes a p b0
+    → Stops ACmp b0 e → Stops MoreCmps a e
 stops_and_0 a b0 p e h q z = stops_by MoreCmps ACmp a b0 e (λ st k. (
   (Ands ∷ st),
   (λ v. k (joined.And v.0 v.1.0, v.1.1)),
   passes_to MoreCmps token.And a b0 p st (ACmp ∷ Ands ∷ st) (λ v. (joined.And v.0 v.1.0, v.1.1)) h q refl k,
 )) z
 
-pub stops_and_1 : (a b0 b1 : Ahead) (p : Place) (x0 : Cmp) (e : SyntaxFault) → head a.left ≡ Some token.And → Passes a p b0 → Gives ACmp b0 x0 b1 → Stops Ands b1 e → Stops MoreCmps a e
+pub stops_and_1 : (a b0 b1 : Ahead) (p : Place) (x0 : Cmp) (e : SyntaxFault) → head a.left ≡ Some token.And
+    → Passes a p b0 → Gives ACmp b0 x0 b1 → Stops Ands b1 e → Stops MoreCmps a e
 unfolding Gives
 stops_and_1 a b0 b1 p x0 e h q g0 z = stops_by MoreCmps Ands a b1 e (λ st k. (
   (st),
@@ -612,7 +363,8 @@ stops_and_1 a b0 b1 p x0 e h q g0 z = stops_by MoreCmps Ands a b1 e (λ st k. (
 
 pub ruleset steps_and = (gives_and, halts_and, stops_and_0, stops_and_1, memory, reads_ok, reads_err)
 
-pub gives_or : (a b0 b1 b2 : Ahead) (p : Place) (x0 : Cmp) (x1 : List Cmp) → head a.left ≡ Some token.Or → Passes a p b0 → Gives ACmp b0 x0 b1 → Gives Ors b1 x1 b2 → Gives MoreCmps a (joined.Or x0 x1) b2
+pub gives_or : (a b0 b1 b2 : Ahead) (p : Place) (x0 : Cmp) (x1 : List Cmp) → head a.left ≡ Some token.Or
+    → Passes a p b0 → Gives ACmp b0 x0 b1 → Gives Ors b1 x1 b2 → Gives MoreCmps a (joined.Or x0 x1) b2
 unfolding Gives
 gives_or a b0 b1 b2 p x0 x1 h q g0 g1 = λ st k.
     passes_to MoreCmps token.Or a b0 p st (ACmp ∷ Ors ∷ st) (λ v. (joined.Or v.0 v.1.0, v.1.1)) h q refl k
@@ -620,16 +372,22 @@ gives_or a b0 b1 b2 p x0 x1 h q g0 g1 = λ st k.
     ∙ g1 (st) (λ v. k (joined.Or x0 v.0, v.1))
 
 pub halts_or : (a : Ahead) (e : SyntaxFault) → head a.left ≡ Some token.Or → Halts a e → Stops MoreCmps a e
-halts_or a e h q = halts_at MoreCmps token.Or a e h q (λ p st. ((ACmp ∷ Ors ∷ st), (λ v. (joined.Or v.0 v.1.0, v.1.1)), refl))
+halts_or a e h q = halts_at MoreCmps token.Or a e h q (λ p st. (
+  (ACmp ∷ Ors ∷ st),
+  (λ v. (joined.Or v.0 v.1.0, v.1.1)),
+  refl,
+))
 
-pub stops_or_0 : (a b0 : Ahead) (p : Place) (e : SyntaxFault) → head a.left ≡ Some token.Or → Passes a p b0 → Stops ACmp b0 e → Stops MoreCmps a e
+pub stops_or_0 : (a b0 : Ahead) (p : Place) (e : SyntaxFault) → head a.left ≡ Some token.Or → Passes a p b0
+    → Stops ACmp b0 e → Stops MoreCmps a e
 stops_or_0 a b0 p e h q z = stops_by MoreCmps ACmp a b0 e (λ st k. (
   (Ors ∷ st),
   (λ v. k (joined.Or v.0 v.1.0, v.1.1)),
   passes_to MoreCmps token.Or a b0 p st (ACmp ∷ Ors ∷ st) (λ v. (joined.Or v.0 v.1.0, v.1.1)) h q refl k,
 )) z
 
-pub stops_or_1 : (a b0 b1 : Ahead) (p : Place) (x0 : Cmp) (e : SyntaxFault) → head a.left ≡ Some token.Or → Passes a p b0 → Gives ACmp b0 x0 b1 → Stops Ors b1 e → Stops MoreCmps a e
+pub stops_or_1 : (a b0 b1 : Ahead) (p : Place) (x0 : Cmp) (e : SyntaxFault) → head a.left ≡ Some token.Or
+    → Passes a p b0 → Gives ACmp b0 x0 b1 → Stops Ors b1 e → Stops MoreCmps a e
 unfolding Gives
 stops_or_1 a b0 b1 p x0 e h q g0 z = stops_by MoreCmps Ors a b1 e (λ st k. (
   (st),
@@ -640,24 +398,31 @@ stops_or_1 a b0 b1 p x0 e h q g0 z = stops_by MoreCmps Ors a b1 e (λ st k. (
 
 pub ruleset steps_or = (gives_or, halts_or, stops_or_0, stops_or_1, memory, reads_ok, reads_err)
 
-open_expr : (b : Ahead) (p : Place) (st : Stack) (k : Values (AnExpr ∷ st) → Tree) → place_of b.left ≡ p → reading b.opened (AnExpr ∷ st) k b.left ≡ reading b.opened (ACmp ∷ MoreCmps ∷ st) (λ v. k (expr_of p v.0 v.1.0, v.1.1)) b.left
-open_expr b p st k q = same_read b.opened (ACmp ∷ MoreCmps ∷ st) (AnExpr ∷ st) (λ v. (expr_of (place_of b.left) v.0 v.1.0, v.1.1)) k b.left (refl) ∙ ap (λ p. reading b.opened (ACmp ∷ MoreCmps ∷ st) (λ v. k (expr_of p v.0 v.1.0, v.1.1)) b.left) q
+open_expr : (b : Ahead) (p : Place) (st : Stack) (k : Values (AnExpr ∷ st) → Tree) → place_of b.left ≡ p
+    → reading b.opened (AnExpr ∷ st) k b.left ≡ reading b.opened (ACmp ∷ MoreCmps ∷ st)
+    (λ v. k (expr_of p v.0 v.1.0, v.1.1)) b.left
+open_expr b p st k q = same_read b.opened (ACmp ∷ MoreCmps ∷ st) (AnExpr ∷ st)
+    (λ v. (expr_of (place_of b.left) v.0 v.1.0, v.1.1)) k b.left (refl)
+    ∙ ap (λ p. reading b.opened (ACmp ∷ MoreCmps ∷ st) (λ v. k (expr_of p v.0 v.1.0, v.1.1)) b.left) q
 
-pub gives_expr : (b0 b1 b2 : Ahead) (p : Place) (x0 : Cmp) (x1 : Joined) → place_of b0.left ≡ p → Gives ACmp b0 x0 b1 → Gives MoreCmps b1 x1 b2 → Gives AnExpr b0 (expr_of p x0 x1) b2
+pub gives_expr : (b0 b1 b2 : Ahead) (p : Place) (x0 : Cmp) (x1 : Joined) → place_of b0.left ≡ p → Gives ACmp b0 x0 b1
+    → Gives MoreCmps b1 x1 b2 → Gives AnExpr b0 (expr_of p x0 x1) b2
 unfolding Gives
 gives_expr b0 b1 b2 p x0 x1 q g0 g1 = λ st k.
     open_expr b0 p st k q
     ∙ g0 (MoreCmps ∷ st) (λ v. k (expr_of p v.0 v.1.0, v.1.1))
     ∙ g1 (st) (λ v. k (expr_of p x0 v.0, v.1))
 
-pub stops_expr_0 : (b0 : Ahead) (p : Place) (e : SyntaxFault) → place_of b0.left ≡ p → Stops ACmp b0 e → Stops AnExpr b0 e
+pub stops_expr_0 : (b0 : Ahead) (p : Place) (e : SyntaxFault) → place_of b0.left ≡ p → Stops ACmp b0 e
+    → Stops AnExpr b0 e
 stops_expr_0 b0 p e q z = stops_by AnExpr ACmp b0 b0 e (λ st k. (
   (MoreCmps ∷ st),
   (λ v. k (expr_of p v.0 v.1.0, v.1.1)),
   open_expr b0 p st k q,
 )) z
 
-pub stops_expr_1 : (b0 b1 : Ahead) (p : Place) (x0 : Cmp) (e : SyntaxFault) → place_of b0.left ≡ p → Gives ACmp b0 x0 b1 → Stops MoreCmps b1 e → Stops AnExpr b0 e
+pub stops_expr_1 : (b0 b1 : Ahead) (p : Place) (x0 : Cmp) (e : SyntaxFault) → place_of b0.left ≡ p → Gives ACmp b0 x0 b1
+    → Stops MoreCmps b1 e → Stops AnExpr b0 e
 unfolding Gives
 stops_expr_1 b0 b1 p x0 e q g0 z = stops_by AnExpr MoreCmps b0 b1 e (λ st k. (
   (st),
@@ -668,7 +433,8 @@ stops_expr_1 b0 b1 p x0 e q g0 z = stops_by AnExpr MoreCmps b0 b1 e (λ st k. (
 
 pub ruleset steps_expr = (gives_expr, stops_expr_0, stops_expr_1, memory, reads_ok, reads_err)
 
-pub gives_where : (a b0 b1 : Ahead) (p : Place) (x0 : Expr) → head a.left ≡ Some token.Where → Passes a p b0 → Gives AnExpr b0 x0 b1 → Gives Where a (Some x0) b1
+pub gives_where : (a b0 b1 : Ahead) (p : Place) (x0 : Expr) → head a.left ≡ Some token.Where → Passes a p b0
+    → Gives AnExpr b0 x0 b1 → Gives Where a (Some x0) b1
 unfolding Gives
 gives_where a b0 b1 p x0 h q g0 = λ st k.
     passes_to Where token.Where a b0 p st (AnExpr ∷ st) (λ v. (Some v.0, v.1)) h q refl k
@@ -677,7 +443,8 @@ gives_where a b0 b1 p x0 h q g0 = λ st k.
 pub halts_where : (a : Ahead) (e : SyntaxFault) → head a.left ≡ Some token.Where → Halts a e → Stops Where a e
 halts_where a e h q = halts_at Where token.Where a e h q (λ p st. ((AnExpr ∷ st), (λ v. (Some v.0, v.1)), refl))
 
-pub stops_where_0 : (a b0 : Ahead) (p : Place) (e : SyntaxFault) → head a.left ≡ Some token.Where → Passes a p b0 → Stops AnExpr b0 e → Stops Where a e
+pub stops_where_0 : (a b0 : Ahead) (p : Place) (e : SyntaxFault) → head a.left ≡ Some token.Where → Passes a p b0
+    → Stops AnExpr b0 e → Stops Where a e
 stops_where_0 a b0 p e h q z = stops_by Where AnExpr a b0 e (λ st k. (
   (st),
   (λ v. k (Some v.0, v.1)),
@@ -686,7 +453,8 @@ stops_where_0 a b0 p e h q z = stops_by Where AnExpr a b0 e (λ st k. (
 
 pub ruleset steps_where = (gives_where, halts_where, stops_where_0, memory, reads_ok, reads_err)
 
-right_at_token : (r : Relation) (st : Stack) (next : Shift st) → m.right_at (Some (relation_token r)) st next ≡ Takes (ASum ∷ st) (λ v. (right.Related r v.0, v.1))
+right_at_token : (r : Relation) (st : Stack) (next : Shift st) → m.right_at (Some (relation_token r)) st next
+    ≡ Takes (ASum ∷ st) (λ v. (right.Related r v.0, v.1))
 right_at_token relation.Equal st next = refl
 right_at_token relation.NotEqual st next = refl
 right_at_token relation.Less st next = refl
@@ -694,20 +462,29 @@ right_at_token relation.AtMost st next = refl
 right_at_token relation.Greater st next = refl
 right_at_token relation.AtLeast st next = refl
 
-pub gives_right : (a b0 b1 : Ahead) (p : Place) (r : Relation) (x0 : Sum) → head a.left ≡ Some (relation_token r) → Passes a p b0 → Gives ASum b0 x0 b1 → Gives Right a (right.Related r x0) b1
+pub gives_right : (a b0 b1 : Ahead) (p : Place) (r : Relation) (x0 : Sum) → head a.left ≡ Some (relation_token r)
+    → Passes a p b0 → Gives ASum b0 x0 b1 → Gives Right a (right.Related r x0) b1
 unfolding Gives
 gives_right a b0 b1 p r x0 h q g0 = λ st k.
-    passes_to Right (relation_token r) a b0 p st (ASum ∷ st) (λ v. (right.Related r v.0, v.1)) h q (right_at_token r st (shift st (Some (relation_token r)) p)) k
+    passes_to Right (relation_token r) a b0 p st (ASum ∷ st) (λ v. (right.Related r v.0, v.1)) h q
+    (right_at_token r st (shift st (Some (relation_token r)) p)) k
     ∙ g0 (st) (λ v. k (right.Related r v.0, v.1))
 
-pub halts_right : (a : Ahead) (e : SyntaxFault) (r : Relation) → head a.left ≡ Some (relation_token r) → Halts a e → Stops Right a e
-halts_right a e r h q = halts_at Right (relation_token r) a e h q (λ p st. ((ASum ∷ st), (λ v. (right.Related r v.0, v.1)), right_at_token r st (shift st (Some (relation_token r)) p)))
+pub halts_right : (a : Ahead) (e : SyntaxFault) (r : Relation) → head a.left ≡ Some (relation_token r)
+    → Halts a e → Stops Right a e
+halts_right a e r h q = halts_at Right (relation_token r) a e h q (λ p st. (
+  (ASum ∷ st),
+  (λ v. (right.Related r v.0, v.1)),
+  right_at_token r st (shift st (Some (relation_token r)) p),
+))
 
-pub stops_right_0 : (a b0 : Ahead) (p : Place) (e : SyntaxFault) (r : Relation) → head a.left ≡ Some (relation_token r) → Passes a p b0 → Stops ASum b0 e → Stops Right a e
+pub stops_right_0 : (a b0 : Ahead) (p : Place) (e : SyntaxFault) (r : Relation) → head a.left ≡ Some (relation_token r)
+    → Passes a p b0 → Stops ASum b0 e → Stops Right a e
 stops_right_0 a b0 p e r h q z = stops_by Right ASum a b0 e (λ st k. (
   (st),
   (λ v. k (right.Related r v.0, v.1)),
-  passes_to Right (relation_token r) a b0 p st (ASum ∷ st) (λ v. (right.Related r v.0, v.1)) h q (right_at_token r st (shift st (Some (relation_token r)) p)) k,
+  passes_to Right (relation_token r) a b0 p st (ASum ∷ st) (λ v. (right.Related r v.0, v.1)) h q
+      (right_at_token r st (shift st (Some (relation_token r)) p)) k,
 )) z
 
 pub ruleset steps_right = (gives_right, halts_right, stops_right_0, memory, reads_ok, reads_err)

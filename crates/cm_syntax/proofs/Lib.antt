@@ -2,13 +2,16 @@ pub mod Alternatives
 pub mod Spells
 pub mod Steps
 pub mod TypeSteps
+pub mod PrimSteps
 pub mod ExprSteps
 pub mod StmtSteps
 pub mod DeclSteps
+pub mod CallSteps
 pub mod NextToken
 pub mod Skips
 pub mod Decisions
 pub mod ListSteps
+pub mod Ranks
 pub mod CompleteExpr
 pub mod Complete
 pub mod Laws

@@ -1,5 +1,6 @@
 -- Each step of the machine takes the token that its values begin with.
-use Rattle.std.proofs.Common.{◌≡◌, ℕ, Bool, true, false, List, [], ◌∷◌, map, Option, Some, None, refl, ap, ◌∙◌, if◌then◌else◌}
+use Rattle.std.proofs.Common.{◌≡◌, ℕ, Bool, true, false, List, [], ◌∷◌, map, Option, Some, None, refl, ap, ◌∙◌}
+use Rattle.std.proofs.Common.{if◌then◌else◌}
 use Rattle.cm_model.specs.declared.place.Place.{Place}
 use Rattle.cm_tokens.specs.declared.token.Token.{Token}
 use Rattle.cm_tokens.specs.declared.token.Token.TheVariants as token
@@ -30,9 +31,16 @@ use Rattle.cm_syntax.specs.declared.tails.RightSide.TheVariants as right
 use Rattle.cm_syntax.specs.declared.tails.Joined.{Joined}
 use Rattle.cm_syntax.specs.declared.tails.Joined.TheVariants as joined
 use Rattle.cm_syntax.specs.Form.{each_after}
-use Rattle.cm_syntax.specs.Spelling.{names_after, listed, each, num_form, type_form, part_form, set_of, post_of, relation_token, sets_form, cmp_form, expr_form, prim_form, sum_form, unary_form, post_form, set_form, stmt_form, block_form, internal_form, decl_form, tree_form}
-use Rattle.cm_syntax.specs.Machine as m
-use Rattle.cm_syntax.specs.Machine.{Symbol, Exactly, AName, ANumber, ANum, AType, APart, MoreParts, Params, Internals, MoreNames, Key, Where, ADecl, Decls, ABlock, Stmts, AStmt, Index, Else, AnExpr, MoreCmps, Ands, Ors, ACmp, Right, ASum, AnOffset, AUnary, APost, Fields, With, MoreSets, ASet, APrim, BehindName, Args, MoreArgs, Text, ValueOf, Stack, Values, Shift, Takes, Ends, Fails, mapped, is_mark, symbol_at, shift}
+use Rattle.cm_syntax.specs.Spelling.{names_after, listed, each, num_form, type_form, part_form, set_of, post_of}
+use Rattle.cm_syntax.specs.Spelling.{relation_token, sets_form, cmp_form, expr_form, prim_form, sum_form, unary_form}
+use Rattle.cm_syntax.specs.Spelling.{post_form, set_form, stmt_form, block_form, internal_form, decl_form, tree_form}
+use Rattle.cm_syntax.specs.inner.Machine as m
+use Rattle.cm_syntax.specs.inner.Machine.{Symbol, Exactly, AName, ANumber, ANum, AType, APart, MoreParts, Params}
+use Rattle.cm_syntax.specs.inner.Machine.{Internals, MoreNames, Key, Where, ADecl, Decls, ABlock, Stmts, AStmt, Index}
+use Rattle.cm_syntax.specs.inner.Machine.{Else, AnExpr, MoreCmps, Ands, Ors, ACmp, Right, ASum, AnOffset, AUnary, APost}
+use Rattle.cm_syntax.specs.inner.Machine.{Fields, With, MoreSets, ASet, APrim, BehindName, Args, MoreArgs, Text}
+use Rattle.cm_syntax.specs.inner.Machine.{ValueOf, Stack, Values, Shift, Takes, Ends, Fails, mapped, is_mark, symbol_at}
+use Rattle.cm_syntax.specs.inner.Machine.{shift}
 use Rattle.cm_syntax.proofs.Alternatives as is
 
 abbrev pub token_of : Mark → Token
@@ -77,8 +85,10 @@ value_then Else None ts = ts
 value_then Else (Some x) ts = token.Else ∷ (block_form x).writes ts
 value_then AnExpr x ts = (expr_form x).writes ts
 value_then MoreCmps joined.Nothing ts = ts
-value_then MoreCmps (joined.And x xs) ts = token.And ∷ (cmp_form x).writes ((each_after token.And (map cmp_form xs)).writes ts)
-value_then MoreCmps (joined.Or x xs) ts = token.Or ∷ (cmp_form x).writes ((each_after token.Or (map cmp_form xs)).writes ts)
+value_then MoreCmps (joined.And x xs) ts = token.And ∷ (cmp_form x).writes
+    ((each_after token.And (map cmp_form xs)).writes ts)
+value_then MoreCmps (joined.Or x xs) ts = token.Or ∷ (cmp_form x).writes ((each_after token.Or (map cmp_form xs)).writes
+    ts)
 value_then Ands xs ts = (each_after token.And (map cmp_form xs)).writes ts
 value_then Ors xs ts = (each_after token.Or (map cmp_form xs)).writes ts
 value_then ACmp x ts = (cmp_form x).writes ts
@@ -172,7 +182,8 @@ Spells st None (Takes later build) = ⊥
 Spells st None (Ends v) = spelling st v ≡ []
 Spells st None Fails = Unit {0}
 
-mapped_spells : (a b : Stack) (o : Option Token) (f : Values a → Values b) → ((v : Values a) → spelling b (f v) ≡ spelling a v) → (x : Shift a) → Spells a o x → Spells b o (mapped f x)
+mapped_spells : (a b : Stack) (o : Option Token) (f : Values a → Values b)
+    → ((v : Values a) → spelling b (f v) ≡ spelling a v) → (x : Shift a) → Spells a o x → Spells b o (mapped f x)
 mapped_spells a b (Some t) f same (Takes later build) h = λ v. same (build v) ∙ h v
 mapped_spells a b (Some t) f same (Ends v) h = h
 mapped_spells a b (Some t) f same Fails h = tt
@@ -204,7 +215,8 @@ exactly_spells : (w : Mark) (o : Option Token) (st : Stack) → Spells (Exactly 
 exactly_spells w None st = tt
 exactly_spells w (Some t) st = went (is_mark w t) (mark_is w t)
   where
-    went : (b : Bool) → (b ≡ true → token_of w ≡ t) → Spells (Exactly w ∷ st) (Some t) (mapped (λ v. (tt, v)) (if b then Takes st (λ v. v) else Fails))
+    went : (b : Bool) → (b ≡ true → token_of w ≡ t)
+        → Spells (Exactly w ∷ st) (Some t) (mapped (λ v. (tt, v)) (if b then Takes st (λ v. v) else Fails))
     went true h = λ v. ap (λ x. x ∷ spelling st v) (h refl)
     went false h = tt
 
@@ -228,27 +240,34 @@ type_spells (Some token.Option) a st = λ v. ap (λ f. f.writes (spelling st v.1
 type_spells o a st = fails (AType ∷ st) o
 
 part_spells : (o : Option Token) (a : Place) (st : Stack) → Spells (APart ∷ st) o (m.part_at o a st)
-part_spells o a st = mapped_spells (AName ∷ Exactly mark.Colon ∷ AType ∷ st) (APart ∷ st) o (λ v. (m.part_of a v.0 v.1.1.0, v.1.1.1)) (λ v. refl) (m.name_at o (Exactly mark.Colon ∷ AType ∷ st)) (name_spells o (Exactly mark.Colon ∷ AType ∷ st))
+part_spells o a st = mapped_spells (AName ∷ Exactly mark.Colon ∷ AType ∷ st) (APart ∷ st) o
+    (λ v. (m.part_of a v.0 v.1.1.0, v.1.1.1)) (λ v. refl) (m.name_at o (Exactly mark.Colon ∷ AType ∷ st))
+    (name_spells o (Exactly mark.Colon ∷ AType ∷ st))
 
-more_parts_spells : (o : Option Token) (st : Stack) (next : Shift st) → Spells st o next → Spells (MoreParts ∷ st) o (m.more_parts_at o st next)
+more_parts_spells : (o : Option Token) (st : Stack) (next : Shift st) → Spells st o next
+    → Spells (MoreParts ∷ st) o (m.more_parts_at o st next)
 more_parts_spells (Some token.Comma) st next h = λ v. refl
 more_parts_spells o st next h = mapped_spells st (MoreParts ∷ st) o (λ v. ([], v)) (λ v. refl) next h
 
-params_spells : (o : Option Token) (a : Place) (st : Stack) (next : Shift st) → Spells st o next → Spells (Params ∷ st) o (m.params_at o a st next)
+params_spells : (o : Option Token) (a : Place) (st : Stack) (next : Shift st) → Spells st o next
+    → Spells (Params ∷ st) o (m.params_at o a st next)
 params_spells (Some (token.Name n)) a st next h = λ v. refl
 params_spells o a st next h = mapped_spells st (Params ∷ st) o (λ v. ([], v)) (λ v. refl) next h
 
-internals_spells : (o : Option Token) (st : Stack) (next : Shift st) → Spells st o next → Spells (Internals ∷ st) o (m.internals_at o st next)
+internals_spells : (o : Option Token) (st : Stack) (next : Shift st) → Spells st o next
+    → Spells (Internals ∷ st) o (m.internals_at o st next)
 internals_spells (Some token.Semicolon) st next h = λ v. refl
 internals_spells o st next h = mapped_spells st (Internals ∷ st) o (λ v. ([], v)) (λ v. refl) next h
 
-more_names_spells : (o : Option Token) (st : Stack) (next : Shift st) → Spells st o next → Spells (MoreNames ∷ st) o (m.more_names_at o st next)
+more_names_spells : (o : Option Token) (st : Stack) (next : Shift st) → Spells st o next
+    → Spells (MoreNames ∷ st) o (m.more_names_at o st next)
 more_names_spells (Some token.Comma) st next h = λ v. refl
 more_names_spells o st next h = mapped_spells st (MoreNames ∷ st) o (λ v. ([], v)) (λ v. refl) next h
 
 -- Expressions
 
-name_same : (a : Place) (n : List ℕ) (x : AfterName) (ts : List Token) → (prim_form (m.after_name a n x)).writes ts ≡ token.Name n ∷ value_then BehindName x ts
+name_same : (a : Place) (n : List ℕ) (x : AfterName) (ts : List Token)
+    → (prim_form (m.after_name a n x)).writes ts ≡ token.Name n ∷ value_then BehindName x ts
 name_same a n after.Nothing ts = ap (λ f. f.writes ts) (is.prim_Name a n)
 name_same a n (after.Key e) ts = ap (λ f. f.writes ts) (is.prim_Entry a n e)
 name_same a n (after.Args es) ts = ap (λ f. f.writes ts) (is.prim_Apply a n es)
@@ -265,47 +284,60 @@ prim_spells (Some token.Something) a st = λ v. ap (λ f. f.writes (spelling st 
 prim_spells (Some token.OpenRound) a st = λ v. ap (λ f. f.writes (spelling st v.1.1)) (is.prim_Group a v.0)
 prim_spells o a st = fails (APrim ∷ st) o
 
-behind_name_spells : (o : Option Token) (st : Stack) (next : Shift st) → Spells st o next → Spells (BehindName ∷ st) o (m.behind_name_at o st next)
+behind_name_spells : (o : Option Token) (st : Stack) (next : Shift st) → Spells st o next
+    → Spells (BehindName ∷ st) o (m.behind_name_at o st next)
 behind_name_spells (Some token.OpenSquare) st next h = λ v. refl
 behind_name_spells (Some token.OpenRound) st next h = λ v. refl
 behind_name_spells o st next h = mapped_spells st (BehindName ∷ st) o (λ v. (after.Nothing, v)) (λ v. refl) next h
 
-fields_spells : (o : Option Token) (st : Stack) (next : Shift st) → Spells st o next → Spells (Fields ∷ st) o (m.fields_at o st next)
+fields_spells : (o : Option Token) (st : Stack) (next : Shift st) → Spells st o next
+    → Spells (Fields ∷ st) o (m.fields_at o st next)
 fields_spells (Some token.Dot) st next h = λ v. refl
 fields_spells o st next h = mapped_spells st (Fields ∷ st) o (λ v. ([], v)) (λ v. refl) next h
 
 set_spells : (o : Option Token) (a : Place) (st : Stack) → Spells (ASet ∷ st) o (m.set_at o a st)
-set_spells o a st = mapped_spells (AName ∷ Exactly mark.Colon ∷ AnExpr ∷ st) (ASet ∷ st) o _ (λ v. ap (λ f. f.writes (spelling st v.1.1.1)) (is.set_is a v.0 v.1.1.0)) (m.name_at o (Exactly mark.Colon ∷ AnExpr ∷ st)) (name_spells o (Exactly mark.Colon ∷ AnExpr ∷ st))
+set_spells o a st = mapped_spells (AName ∷ Exactly mark.Colon ∷ AnExpr ∷ st) (ASet ∷ st) o _
+    (λ v. ap (λ f. f.writes (spelling st v.1.1.1)) (is.set_is a v.0 v.1.1.0))
+    (m.name_at o (Exactly mark.Colon ∷ AnExpr ∷ st)) (name_spells o (Exactly mark.Colon ∷ AnExpr ∷ st))
 
-more_sets_spells : (o : Option Token) (st : Stack) (next : Shift st) → Spells st o next → Spells (MoreSets ∷ st) o (m.more_sets_at o st next)
+more_sets_spells : (o : Option Token) (st : Stack) (next : Shift st) → Spells st o next
+    → Spells (MoreSets ∷ st) o (m.more_sets_at o st next)
 more_sets_spells (Some token.Comma) st next h = λ v. refl
 more_sets_spells o st next h = mapped_spells st (MoreSets ∷ st) o (λ v. ([], v)) (λ v. refl) next h
 
-with_spells : (o : Option Token) (st : Stack) (next : Shift st) → Spells st o next → Spells (With ∷ st) o (m.with_at o st next)
+with_spells : (o : Option Token) (st : Stack) (next : Shift st) → Spells st o next
+    → Spells (With ∷ st) o (m.with_at o st next)
 with_spells (Some token.With) st next h = λ v. refl
 with_spells o st next h = mapped_spells st (With ∷ st) o (λ v. ([], v)) (λ v. refl) next h
 
 post_spells : (o : Option Token) (a : Place) (st : Stack) → Spells (APost ∷ st) o (m.post_at o a st)
-post_spells o a st = mapped_spells (APrim ∷ Fields ∷ With ∷ st) (APost ∷ st) o _ (λ v. ap (λ f. f.writes (spelling st v.1.1.1)) (is.post_is a v.0 v.1.0 v.1.1.0)) (m.prim_at o a (Fields ∷ With ∷ st)) (prim_spells o a (Fields ∷ With ∷ st))
+post_spells o a st = mapped_spells (APrim ∷ Fields ∷ With ∷ st) (APost ∷ st) o _
+    (λ v. ap (λ f. f.writes (spelling st v.1.1.1)) (is.post_is a v.0 v.1.0 v.1.1.0))
+    (m.prim_at o a (Fields ∷ With ∷ st)) (prim_spells o a (Fields ∷ With ∷ st))
 
 unary_spells : (o : Option Token) (a : Place) (st : Stack) → Spells (AUnary ∷ st) o (m.unary_at o a st)
 unary_spells (Some token.Not) a st = λ v. ap (λ f. f.writes (spelling st v.1)) (is.unary_Not a v.0)
-unary_spells o a st = mapped_spells (APost ∷ st) (AUnary ∷ st) o (λ v. (unary.Bare a v.0, v.1)) (λ v. ap (λ f. f.writes (spelling st v.1)) (is.unary_Bare a v.0)) (m.post_at o a st) (post_spells o a st)
+unary_spells o a st = mapped_spells (APost ∷ st) (AUnary ∷ st) o (λ v. (unary.Bare a v.0, v.1))
+    (λ v. ap (λ f. f.writes (spelling st v.1)) (is.unary_Bare a v.0)) (m.post_at o a st) (post_spells o a st)
 
-offset_spells : (o : Option Token) (st : Stack) (next : Shift st) → Spells st o next → Spells (AnOffset ∷ st) o (m.offset_at o st next)
+offset_spells : (o : Option Token) (st : Stack) (next : Shift st) → Spells st o next
+    → Spells (AnOffset ∷ st) o (m.offset_at o st next)
 offset_spells (Some token.Plus) st next h = λ v. refl
 offset_spells (Some token.Minus) st next h = λ v. refl
 offset_spells o st next h = mapped_spells st (AnOffset ∷ st) o (λ v. (offset.Nothing, v)) (λ v. refl) next h
 
-sum_same : (a : Place) (u : Unary) (x : Offset) (ts : List Token) → (sum_form (m.sum_of a u x)).writes ts ≡ (unary_form u).writes (value_then AnOffset x ts)
+sum_same : (a : Place) (u : Unary) (x : Offset) (ts : List Token) → (sum_form (m.sum_of a u x)).writes ts
+    ≡ (unary_form u).writes (value_then AnOffset x ts)
 sum_same a u offset.Nothing ts = ap (λ f. f.writes ts) (is.sum_Term a u)
 sum_same a u (offset.Plus n) ts = ap (λ f. f.writes ts) (is.sum_Plus a u n)
 sum_same a u (offset.Minus n) ts = ap (λ f. f.writes ts) (is.sum_Minus a u n)
 
 sum_spells : (o : Option Token) (a : Place) (st : Stack) → Spells (ASum ∷ st) o (m.sum_at o a st)
-sum_spells o a st = mapped_spells (AUnary ∷ AnOffset ∷ st) (ASum ∷ st) o _ (λ v. sum_same a v.0 v.1.0 (spelling st v.1.1)) (m.unary_at o a (AnOffset ∷ st)) (unary_spells o a (AnOffset ∷ st))
+sum_spells o a st = mapped_spells (AUnary ∷ AnOffset ∷ st) (ASum ∷ st) o _ (λ v. sum_same a v.0 v.1.0
+    (spelling st v.1.1)) (m.unary_at o a (AnOffset ∷ st)) (unary_spells o a (AnOffset ∷ st))
 
-right_spells : (o : Option Token) (st : Stack) (next : Shift st) → Spells st o next → Spells (Right ∷ st) o (m.right_at o st next)
+right_spells : (o : Option Token) (st : Stack) (next : Shift st) → Spells st o next
+    → Spells (Right ∷ st) o (m.right_at o st next)
 right_spells (Some token.Equal) st next h = λ v. refl
 right_spells (Some token.NotEqual) st next h = λ v. refl
 right_spells (Some token.Less) st next h = λ v. refl
@@ -314,49 +346,63 @@ right_spells (Some token.Greater) st next h = λ v. refl
 right_spells (Some token.AtLeast) st next h = λ v. refl
 right_spells o st next h = mapped_spells st (Right ∷ st) o (λ v. (right.Nothing, v)) (λ v. refl) next h
 
-cmp_same : (a : Place) (s : Sum) (x : RightSide) (ts : List Token) → (cmp_form (m.cmp_of a s x)).writes ts ≡ (sum_form s).writes (value_then Right x ts)
+cmp_same : (a : Place) (s : Sum) (x : RightSide) (ts : List Token) → (cmp_form (m.cmp_of a s x)).writes ts
+    ≡ (sum_form s).writes (value_then Right x ts)
 cmp_same a s right.Nothing ts = ap (λ f. f.writes ts) (is.cmp_Side a s)
 cmp_same a s (right.Related r t) ts = ap (λ f. f.writes ts) (is.cmp_Compared a s r t)
 
 cmp_spells : (o : Option Token) (a : Place) (st : Stack) → Spells (ACmp ∷ st) o (m.cmp_at o a st)
-cmp_spells o a st = mapped_spells (ASum ∷ Right ∷ st) (ACmp ∷ st) o _ (λ v. cmp_same a v.0 v.1.0 (spelling st v.1.1)) (m.sum_at o a (Right ∷ st)) (sum_spells o a (Right ∷ st))
+cmp_spells o a st = mapped_spells (ASum ∷ Right ∷ st) (ACmp ∷ st) o _ (λ v. cmp_same a v.0 v.1.0 (spelling st v.1.1))
+    (m.sum_at o a (Right ∷ st)) (sum_spells o a (Right ∷ st))
 
-more_cmps_spells : (o : Option Token) (st : Stack) (next : Shift st) → Spells st o next → Spells (MoreCmps ∷ st) o (m.more_cmps_at o st next)
+more_cmps_spells : (o : Option Token) (st : Stack) (next : Shift st) → Spells st o next
+    → Spells (MoreCmps ∷ st) o (m.more_cmps_at o st next)
 more_cmps_spells (Some token.And) st next h = λ v. refl
 more_cmps_spells (Some token.Or) st next h = λ v. refl
 more_cmps_spells o st next h = mapped_spells st (MoreCmps ∷ st) o (λ v. (joined.Nothing, v)) (λ v. refl) next h
 
-ands_spells : (o : Option Token) (st : Stack) (next : Shift st) → Spells st o next → Spells (Ands ∷ st) o (m.ands_at o st next)
+ands_spells : (o : Option Token) (st : Stack) (next : Shift st) → Spells st o next
+    → Spells (Ands ∷ st) o (m.ands_at o st next)
 ands_spells (Some token.And) st next h = λ v. refl
 ands_spells o st next h = mapped_spells st (Ands ∷ st) o (λ v. ([], v)) (λ v. refl) next h
 
-ors_spells : (o : Option Token) (st : Stack) (next : Shift st) → Spells st o next → Spells (Ors ∷ st) o (m.ors_at o st next)
+ors_spells : (o : Option Token) (st : Stack) (next : Shift st) → Spells st o next
+    → Spells (Ors ∷ st) o (m.ors_at o st next)
 ors_spells (Some token.Or) st next h = λ v. refl
 ors_spells o st next h = mapped_spells st (Ors ∷ st) o (λ v. ([], v)) (λ v. refl) next h
 
-expr_same : (a : Place) (c : Cmp) (x : Joined) (ts : List Token) → (expr_form (m.expr_of a c x)).writes ts ≡ (cmp_form c).writes (value_then MoreCmps x ts)
+expr_same : (a : Place) (c : Cmp) (x : Joined) (ts : List Token) → (expr_form (m.expr_of a c x)).writes ts
+    ≡ (cmp_form c).writes (value_then MoreCmps x ts)
 expr_same a c joined.Nothing ts = ap (λ f. f.writes ts) (is.expr_Single a c)
 expr_same a c (joined.And d more) ts = ap (λ f. f.writes ts) (is.expr_All a c d more)
 expr_same a c (joined.Or d more) ts = ap (λ f. f.writes ts) (is.expr_Any a c d more)
 
 expr_spells : (o : Option Token) (a : Place) (st : Stack) → Spells (AnExpr ∷ st) o (m.expr_at o a st)
-expr_spells o a st = mapped_spells (ACmp ∷ MoreCmps ∷ st) (AnExpr ∷ st) o _ (λ v. expr_same a v.0 v.1.0 (spelling st v.1.1)) (m.cmp_at o a (MoreCmps ∷ st)) (cmp_spells o a (MoreCmps ∷ st))
+expr_spells o a st = mapped_spells (ACmp ∷ MoreCmps ∷ st) (AnExpr ∷ st) o _ (λ v. expr_same a v.0 v.1.0
+    (spelling st v.1.1)) (m.cmp_at o a (MoreCmps ∷ st)) (cmp_spells o a (MoreCmps ∷ st))
 
 args_spells : (o : Option Token) (a : Place) (st : Stack) → Spells (Args ∷ st) o (m.args_at o a st)
 args_spells (Some token.CloseRound) a st = λ v. refl
-args_spells o a st = mapped_spells (AnExpr ∷ MoreArgs ∷ Exactly mark.CloseRound ∷ st) (Args ∷ st) o (λ v. (v.0 ∷ v.1.0, v.1.1.1)) (λ v. refl) (m.expr_at o a (MoreArgs ∷ Exactly mark.CloseRound ∷ st)) (expr_spells o a (MoreArgs ∷ Exactly mark.CloseRound ∷ st))
+args_spells o a st = mapped_spells (AnExpr ∷ MoreArgs ∷ Exactly mark.CloseRound ∷ st) (Args ∷ st) o
+    (λ v. (v.0 ∷ v.1.0, v.1.1.1)) (λ v. refl) (m.expr_at o a (MoreArgs ∷ Exactly mark.CloseRound ∷ st))
+    (expr_spells o a (MoreArgs ∷ Exactly mark.CloseRound ∷ st))
 
-more_args_spells : (o : Option Token) (st : Stack) (next : Shift st) → Spells st o next → Spells (MoreArgs ∷ st) o (m.more_args_at o st next)
+more_args_spells : (o : Option Token) (st : Stack) (next : Shift st) → Spells st o next
+    → Spells (MoreArgs ∷ st) o (m.more_args_at o st next)
 more_args_spells (Some token.Comma) st next h = λ v. refl
 more_args_spells o st next h = mapped_spells st (MoreArgs ∷ st) o (λ v. ([], v)) (λ v. refl) next h
 
 -- Statements
 
-assign_same : (a : Place) (n : List ℕ) (k : Option Expr) (e : Expr) (ts : List Token) → (stmt_form (m.assign_of a n k e)).writes ts ≡ token.Name n ∷ value_then Index k (token.Assign ∷ (expr_form e).writes (token.Semicolon ∷ ts))
+assign_same : (a : Place) (n : List ℕ) (k : Option Expr) (e : Expr) (ts : List Token)
+    → (stmt_form (m.assign_of a n k e)).writes ts ≡ token.Name n ∷ value_then Index k
+    (token.Assign ∷ (expr_form e).writes (token.Semicolon ∷ ts))
 assign_same a n None e ts = ap (λ f. f.writes ts) (is.stmt_Assign a n e)
 assign_same a n (Some k) e ts = ap (λ f. f.writes ts) (is.stmt_AssignAt a n k e)
 
-if_same : (a : Place) (e : Expr) (b : Block) (c : Option Block) (ts : List Token) → (stmt_form (m.if_of a e b c)).writes ts ≡ token.If ∷ (expr_form e).writes ((block_form b).writes (value_then Else c ts))
+if_same : (a : Place) (e : Expr) (b : Block) (c : Option Block) (ts : List Token)
+    → (stmt_form (m.if_of a e b c)).writes ts ≡ token.If ∷ (expr_form e).writes
+    ((block_form b).writes (value_then Else c ts))
 if_same a e b None ts = ap (λ f. f.writes ts) (is.stmt_If a e b)
 if_same a e b (Some c) ts = ap (λ f. f.writes ts) (is.stmt_IfElse a e b c)
 
@@ -368,36 +414,44 @@ stmt_spells : (o : Option Token) (a : Place) (st : Stack) → Spells (AStmt ∷ 
 stmt_spells (Some token.Let) a st = λ v. ap (λ f. f.writes (spelling st v.1.1.1.1)) (is.stmt_Let a v.0 v.1.1.0)
 stmt_spells (Some (token.Name n)) a st = λ v. assign_same a n v.0 v.1.1.0 (spelling st v.1.1.1.1)
 stmt_spells (Some token.If) a st = λ v. if_same a v.0 v.1.0 v.1.1.0 (spelling st v.1.1.1)
-stmt_spells (Some token.Case) a st = λ v. ap (λ f. f.writes (spelling st v.1.1.1.1.1.1.1.1)) (is.stmt_Case a v.0 v.1.1.1.0 v.1.1.1.1.1.0 v.1.1.1.1.1.1.0)
+stmt_spells (Some token.Case) a st = λ v. ap (λ f. f.writes (spelling st v.1.1.1.1.1.1.1.1))
+    (is.stmt_Case a v.0 v.1.1.1.0 v.1.1.1.1.1.0 v.1.1.1.1.1.1.0)
 stmt_spells (Some token.Assume) a st = λ v. ap (λ f. f.writes (spelling st v.1.1)) (is.stmt_Assume a v.0)
 stmt_spells (Some token.Return) a st = λ v. ap (λ f. f.writes (spelling st v.1.1)) (is.stmt_Return a v.0)
 stmt_spells o a st = fails (AStmt ∷ st) o
 
-index_spells : (o : Option Token) (st : Stack) (next : Shift st) → Spells st o next → Spells (Index ∷ st) o (m.index_at o st next)
+index_spells : (o : Option Token) (st : Stack) (next : Shift st) → Spells st o next
+    → Spells (Index ∷ st) o (m.index_at o st next)
 index_spells (Some token.OpenSquare) st next h = λ v. refl
 index_spells o st next h = mapped_spells st (Index ∷ st) o (λ v. (None, v)) (λ v. refl) next h
 
-else_spells : (o : Option Token) (st : Stack) (next : Shift st) → Spells st o next → Spells (Else ∷ st) o (m.else_at o st next)
+else_spells : (o : Option Token) (st : Stack) (next : Shift st) → Spells st o next
+    → Spells (Else ∷ st) o (m.else_at o st next)
 else_spells (Some token.Else) st next h = λ v. refl
 else_spells o st next h = mapped_spells st (Else ∷ st) o (λ v. (None, v)) (λ v. refl) next h
 
 stmts_spells : (o : Option Token) (a : Place) (st : Stack) → Spells (Stmts ∷ st) o (m.stmts_at o a st)
 stmts_spells (Some token.CloseCurly) a st = λ v. refl
-stmts_spells o a st = mapped_spells (AStmt ∷ Stmts ∷ st) (Stmts ∷ st) o (λ v. (v.0 ∷ v.1.0, v.1.1)) (λ v. refl) (m.stmt_at o a (Stmts ∷ st)) (stmt_spells o a (Stmts ∷ st))
+stmts_spells o a st = mapped_spells (AStmt ∷ Stmts ∷ st) (Stmts ∷ st) o (λ v. (v.0 ∷ v.1.0, v.1.1)) (λ v. refl)
+    (m.stmt_at o a (Stmts ∷ st)) (stmt_spells o a (Stmts ∷ st))
 
 -- Declarations
 
-state_same : (a : Place) (n : List ℕ) (k : Option TypeTree) (t : TypeTree) (e : Option Expr) (ts : List Token) → (decl_form (m.state_of a n k t e)).writes ts ≡ token.State ∷ token.Name n ∷ token.Colon ∷ value_then Key k ((type_form t).writes (value_then Where e (token.Semicolon ∷ ts)))
+state_same : (a : Place) (n : List ℕ) (k : Option TypeTree) (t : TypeTree) (e : Option Expr) (ts : List Token)
+    → (decl_form (m.state_of a n k t e)).writes ts ≡ token.State ∷ token.Name n ∷ token.Colon
+    ∷ value_then Key k ((type_form t).writes (value_then Where e (token.Semicolon ∷ ts)))
 state_same a n None t None ts = refl
 state_same a n None t (Some e) ts = refl
 state_same a n (Some k) t None ts = refl
 state_same a n (Some k) t (Some e) ts = refl
 
-key_spells : (o : Option Token) (st : Stack) (next : Shift st) → Spells st o next → Spells (Key ∷ st) o (m.key_at o st next)
+key_spells : (o : Option Token) (st : Stack) (next : Shift st) → Spells st o next
+    → Spells (Key ∷ st) o (m.key_at o st next)
 key_spells (Some token.Map) st next h = λ v. refl
 key_spells o st next h = mapped_spells st (Key ∷ st) o (λ v. (None, v)) (λ v. refl) next h
 
-where_spells : (o : Option Token) (st : Stack) (next : Shift st) → Spells st o next → Spells (Where ∷ st) o (m.where_at o st next)
+where_spells : (o : Option Token) (st : Stack) (next : Shift st) → Spells st o next
+    → Spells (Where ∷ st) o (m.where_at o st next)
 where_spells (Some token.Where) st next h = λ v. refl
 where_spells o st next h = mapped_spells st (Where ∷ st) o (λ v. (None, v)) (λ v. refl) next h
 
@@ -413,10 +467,12 @@ decl_spells o a st = fails (ADecl ∷ st) o
 
 decls_spells : (o : Option Token) (a : Place) (st : Stack) → Spells (Decls ∷ st) o (m.decls_at o a st)
 decls_spells (Some token.End) a st = λ v. refl
-decls_spells o a st = mapped_spells (ADecl ∷ Decls ∷ st) (Decls ∷ st) o (λ v. (v.0 ∷ v.1.0, v.1.1)) (λ v. refl) (m.decl_at o a (Decls ∷ st)) (decl_spells o a (Decls ∷ st))
+decls_spells o a st = mapped_spells (ADecl ∷ Decls ∷ st) (Decls ∷ st) o (λ v. (v.0 ∷ v.1.0, v.1.1)) (λ v. refl)
+    (m.decl_at o a (Decls ∷ st)) (decl_spells o a (Decls ∷ st))
 
 text_spells : (o : Option Token) (a : Place) (st : Stack) → Spells (Text ∷ st) o (m.text_at o a st)
-text_spells o a st = mapped_spells (ADecl ∷ Decls ∷ st) (Text ∷ st) o (λ v. (m.tree_of a v.0 v.1.0, v.1.1)) (λ v. refl) (m.decl_at o a (Decls ∷ st)) (decl_spells o a (Decls ∷ st))
+text_spells o a st = mapped_spells (ADecl ∷ Decls ∷ st) (Text ∷ st) o (λ v. (m.tree_of a v.0 v.1.0, v.1.1))
+    (λ v. refl) (m.decl_at o a (Decls ∷ st)) (decl_spells o a (Decls ∷ st))
 
 pub shift_spells : (st : Stack) (o : Option Token) (a : Place) → Spells st o (shift st o a)
 shift_spells [] None a = refl

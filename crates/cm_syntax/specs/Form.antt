@@ -26,7 +26,13 @@ word t f = record { writes = λ ts. t ∷ f.writes ts; placed = f.placed }
 
 -- a part, and then more
 abbrev pub part : {X Y : Type 0} → Form X → Form Y → Form (X × Y)
-part f g = record { writes = λ ts. f.writes (g.writes ts); placed = λ at ts. (f.placed at (g.writes ts), g.placed at ts) }
+part f g = record {
+  writes = λ ts. f.writes (g.writes ts);
+  placed = λ at ts. (
+    f.placed at (g.writes ts),
+    g.placed at ts,
+  );
+}
 
 -- what is made of the place of the first token and of the parts
 abbrev pub node : {X Y : Type 0} → (Place → Y → X) → Form Y → Form X

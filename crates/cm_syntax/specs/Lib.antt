@@ -1,4 +1,4 @@
 pub mod Form
 pub mod Spelling
 pub mod Text
-pub mod Machine
+pub mod inner

@@ -1,9 +1,11 @@
 -- Which tree a text has, and where a text without one goes wrong.
-use Rattle.std.specs.Prelude.{◌≡◌, ℕ, ◌+◌, ◌-◌, nat_lt, Bool, true, false, List, [], ◌∷◌, ◌++◌, map, length, drop, Result, Ok, Err, if◌then◌else◌}
+use Rattle.std.specs.Prelude.{◌≡◌, ℕ, ◌+◌, ◌-◌, nat_lt, Bool, true, false, List, [], ◌∷◌, ◌++◌, map, length, drop}
+use Rattle.std.specs.Prelude.{Result, Ok, Err, if◌then◌else◌}
 use Rattle.cm_model.specs.Limits.{bracket_limit}
 use Rattle.cm_model.specs.declared.place.Place.{Place}
 use Rattle.cm_tokens.specs.declared.token.Token.{Token}
-use Rattle.cm_tokens.specs.declared.token.Token.TheVariants.{OpenRound, CloseRound, OpenSquare, CloseSquare, OpenCurly, CloseCurly}
+use Rattle.cm_tokens.specs.declared.token.Token.TheVariants.{OpenRound, CloseRound, OpenSquare, CloseSquare, OpenCurly}
+use Rattle.cm_tokens.specs.declared.token.Token.TheVariants.{CloseCurly}
 use Rattle.cm_tokens.specs.declared.token.Placed.{Placed}
 use Rattle.cm_syntax.specs.declared.tree.Tree.{Tree}
 use Rattle.cm_syntax.specs.declared.fault.SyntaxFault.{SyntaxFault}
@@ -65,7 +67,8 @@ abbrev pub is_shallow : ℕ → List Token → Bool
 is_shallow n [] = true
 is_shallow n (t ∷ ts) = if too_deep n t then false else is_shallow (open_after n t) ts
 
--- The first token such that no text of the grammar without the limit begins with the tokens up to and including it, and none before it opens a 65th bracket.
+-- The first token such that no text of the grammar without the limit begins with the tokens up to and including it,
+-- and none before it opens a 65th bracket.
 pub record IsSyntaxAt (text : List Placed) (place : Place) : Type 0 where
   pub front : List Placed
   pub rest : List Placed

@@ -3,8 +3,8 @@
 ghost use Rattle.std.specs.Prelude.{◌≡◌, ◌<◌, ◌≤◌, IfOk, Some, true, length};
 ghost use Rattle.std.specs.Bool.{OnTrue, OnFalse};
 ghost use Rattle.cm_tokens.specs.declared.token.Token.TheVariants as token;
-ghost use Rattle.cm_syntax.specs.Machine as Machine;
-ghost use Rattle.cm_syntax.specs.Machine.{Reads, ADecl, Decls, Key, Where, Text, head, no_end};
+ghost use Rattle.cm_syntax.specs.inner.Machine as Machine;
+ghost use Rattle.cm_syntax.specs.inner.Machine.{Reads, ADecl, Decls, Key, Where, Text, head, no_end};
 
 use crate::lists::held;
 use crate::mark::Mark;
@@ -189,7 +189,7 @@ impl<'a> Reader<'a> {
         })
     }
 
-    #[tactic(auto, using(crate::proofs::DeclSteps::steps_call))]
+    #[tactic(auto, using(crate::proofs::CallSteps::steps_call))]
     fn read_call(&mut self) -> Result<Decl, SyntaxFault>
         requires { head self.old.left ≡ Some token.Call }
         ensures reads { Reads ADecl (λ x. x) self.old self.new result }

@@ -3,8 +3,12 @@
 ghost use Rattle.std.specs.Prelude.{◌≡◌, ◌<◌, ◌≤◌, IfOk, MatchOption, Some, true, length};
 ghost use Rattle.cm_tokens.specs.declared.token.Token.TheVariants as token;
 ghost use Rattle.cm_syntax.specs.Spelling.{relation_token};
-ghost use Rattle.cm_syntax.specs.Machine as Machine;
-ghost use Rattle.cm_syntax.specs.Machine.{Reads, AnExpr, MoreCmps, Ands, Ors, ACmp, Right, ASum, AnOffset, AUnary, APost, Fields, With, MoreSets, ASet, APrim, BehindName, Args, MoreArgs, head, starts_num, starts_name, no_not, no_close_round, no_relation};
+ghost use Rattle.cm_syntax.specs.inner.Machine as Machine;
+ghost use Rattle.cm_syntax.specs.inner.Machine.{Reads, AnExpr, MoreCmps, Ands, Ors, ACmp, Right, ASum, AnOffset};
+ghost use Rattle.cm_syntax.specs.inner.Machine.{AUnary};
+ghost use Rattle.cm_syntax.specs.inner.Machine.{APost, Fields, With, MoreSets, ASet, APrim, BehindName, Args, MoreArgs};
+ghost use Rattle.cm_syntax.specs.inner.Machine.{head};
+ghost use Rattle.cm_syntax.specs.inner.Machine.{starts_num, starts_name, no_not, no_close_round, no_relation};
 
 use crate::lists::{held, with_first};
 use crate::mark::Mark;
@@ -285,7 +289,7 @@ impl<'a> Reader<'a> {
 
     /// A field and the value that it is set to.
     #[cycle(read_expr)]
-    #[tactic(auto, using(crate::proofs::ExprSteps::steps_set))]
+    #[tactic(auto, using(crate::proofs::PrimSteps::steps_set))]
     fn read_set(&mut self) -> Result<Set, SyntaxFault>
         ensures reads { Reads ASet (λ x. x) self.old self.new result }
         ensures shorter { IfOk result (λ x. length self.new.left < length self.old.left) }
@@ -333,7 +337,7 @@ impl<'a> Reader<'a> {
         }
     }
 
-    #[tactic(auto, using(crate::proofs::ExprSteps::steps_number))]
+    #[tactic(auto, using(crate::proofs::PrimSteps::steps_number))]
     fn read_prim_number(&mut self) -> Result<tree::Primary, SyntaxFault>
         requires { starts_num (head self.old.left) ≡ true }
         ensures reads { Reads APrim (λ x. x) self.old self.new result }
@@ -344,7 +348,7 @@ impl<'a> Reader<'a> {
         Ok(tree::Primary::Number { at, value })
     }
 
-    #[tactic(auto, using(crate::proofs::ExprSteps::steps_true))]
+    #[tactic(auto, using(crate::proofs::PrimSteps::steps_true))]
     fn read_true(&mut self) -> Result<tree::Primary, SyntaxFault>
         requires { head self.old.left ≡ Some token.True }
         ensures reads { Reads APrim (λ x. x) self.old self.new result }
@@ -354,7 +358,7 @@ impl<'a> Reader<'a> {
         Ok(tree::Primary::True { at })
     }
 
-    #[tactic(auto, using(crate::proofs::ExprSteps::steps_false))]
+    #[tactic(auto, using(crate::proofs::PrimSteps::steps_false))]
     fn read_false(&mut self) -> Result<tree::Primary, SyntaxFault>
         requires { head self.old.left ≡ Some token.False }
         ensures reads { Reads APrim (λ x. x) self.old self.new result }
@@ -364,7 +368,7 @@ impl<'a> Reader<'a> {
         Ok(tree::Primary::False { at })
     }
 
-    #[tactic(auto, using(crate::proofs::ExprSteps::steps_it))]
+    #[tactic(auto, using(crate::proofs::PrimSteps::steps_it))]
     fn read_it(&mut self) -> Result<tree::Primary, SyntaxFault>
         requires { head self.old.left ≡ Some token.It }
         ensures reads { Reads APrim (λ x. x) self.old self.new result }
@@ -374,7 +378,7 @@ impl<'a> Reader<'a> {
         Ok(tree::Primary::It { at })
     }
 
-    #[tactic(auto, using(crate::proofs::ExprSteps::steps_none))]
+    #[tactic(auto, using(crate::proofs::PrimSteps::steps_none))]
     fn read_none_of(&mut self) -> Result<tree::Primary, SyntaxFault>
         requires { head self.old.left ≡ Some token.Nothing }
         ensures reads { Reads APrim (λ x. x) self.old self.new result }
@@ -388,7 +392,7 @@ impl<'a> Reader<'a> {
     }
 
     #[cycle(read_expr)]
-    #[tactic(auto, using(crate::proofs::ExprSteps::steps_some))]
+    #[tactic(auto, using(crate::proofs::PrimSteps::steps_some))]
     fn read_some_of(&mut self) -> Result<tree::Primary, SyntaxFault>
         requires { head self.old.left ≡ Some token.Something }
         ensures reads { Reads APrim (λ x. x) self.old self.new result }
@@ -402,7 +406,7 @@ impl<'a> Reader<'a> {
     }
 
     #[cycle(read_expr)]
-    #[tactic(auto, using(crate::proofs::ExprSteps::steps_group))]
+    #[tactic(auto, using(crate::proofs::PrimSteps::steps_group))]
     fn read_group(&mut self) -> Result<tree::Primary, SyntaxFault>
         requires { head self.old.left ≡ Some token.OpenRound }
         ensures reads { Reads APrim (λ x. x) self.old self.new result }
@@ -415,7 +419,7 @@ impl<'a> Reader<'a> {
     }
 
     #[cycle(read_expr)]
-    #[tactic(auto, using(crate::proofs::ExprSteps::steps_name))]
+    #[tactic(auto, using(crate::proofs::PrimSteps::steps_name))]
     fn read_named(&mut self) -> Result<tree::Primary, SyntaxFault>
         requires { starts_name (head self.old.left) ≡ true }
         ensures reads { Reads APrim (λ x. x) self.old self.new result }
@@ -442,7 +446,7 @@ impl<'a> Reader<'a> {
     }
 
     #[cycle(read_expr)]
-    #[tactic(auto, using(crate::proofs::ExprSteps::steps_key))]
+    #[tactic(auto, using(crate::proofs::PrimSteps::steps_key))]
     fn read_key(&mut self) -> Result<AfterName, SyntaxFault>
         requires { head self.old.left ≡ Some token.OpenSquare }
         ensures reads { Reads BehindName (λ x. x) self.old self.new result }
@@ -455,7 +459,7 @@ impl<'a> Reader<'a> {
     }
 
     #[cycle(read_expr)]
-    #[tactic(auto, using(crate::proofs::ExprSteps::steps_arguments))]
+    #[tactic(auto, using(crate::proofs::PrimSteps::steps_arguments))]
     fn read_arguments(&mut self) -> Result<AfterName, SyntaxFault>
         requires { head self.old.left ≡ Some token.OpenRound }
         ensures reads { Reads BehindName (λ x. x) self.old self.new result }
@@ -478,7 +482,7 @@ impl<'a> Reader<'a> {
         }
     }
 
-    #[tactic(auto, using(crate::proofs::ExprSteps::steps_no_args))]
+    #[tactic(auto, using(crate::proofs::PrimSteps::steps_no_args))]
     fn read_no_args(&mut self) -> Result<List<Expr>, SyntaxFault>
         requires { head self.old.left ≡ Some token.CloseRound }
         ensures reads { Reads Args (λ x. x) self.old self.new result }
@@ -489,7 +493,7 @@ impl<'a> Reader<'a> {
     }
 
     #[cycle(read_expr)]
-    #[tactic(auto, using(crate::proofs::ExprSteps::steps_some_args))]
+    #[tactic(auto, using(crate::proofs::PrimSteps::steps_some_args))]
     fn read_some_args(&mut self) -> Result<List<Expr>, SyntaxFault>
         requires { no_close_round (head self.old.left) ≡ true }
         ensures reads { Reads Args (λ x. x) self.old self.new result }
@@ -520,7 +524,8 @@ impl<'a> Reader<'a> {
 
     /// How the next token relates two sides.
     fn peek_relation(&self) -> Option<Relation>
-        ensures { MatchOption result (no_relation (head self.now.left) ≡ true) (λ r. head self.now.left ≡ Some (relation_token r)) }
+        ensures { MatchOption result (no_relation (head self.now.left) ≡ true) (λ r. head self.now.left
+            ≡ Some (relation_token r)) }
     {
         match self.peek() {
             Some(Token::Equal) => Some(Relation::Equal),

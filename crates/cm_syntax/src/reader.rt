@@ -1,12 +1,13 @@
 //! A reader of tokens that counts the brackets that are open.
 
-ghost use Rattle.std.specs.Prelude.{◌≡◌, ◌∷◌, ◌-◌, ◌^◌, ◌<◌, ◌≤◌, ◌+◌, [], List, IfOk, IfErr, MatchOption, MatchResult, true, false, length};
+ghost use Rattle.std.specs.Prelude.{◌≡◌, ◌∷◌, ◌-◌, ◌^◌, ◌<◌, ◌≤◌, ◌+◌, [], List, IfOk, IfErr, MatchOption, MatchResult};
+ghost use Rattle.std.specs.Prelude.{true, false, length};
 ghost use Rattle.cm_tokens.specs.Listing as Listing;
 ghost use Rattle.cm_tokens.specs.declared.token.Placed.{Placed};
 ghost use Rattle.cm_tokens.specs.declared.token.Token.TheVariants as token;
 ghost use Rattle.cm_model.specs.declared.place.Place.{Place};
-ghost use Rattle.cm_syntax.specs.Machine.{Reads, PassesOr, AName, ANumber, Exactly, head, no_name};
-ghost use Rattle.cm_syntax.specs.Machine as Machine;
+ghost use Rattle.cm_syntax.specs.inner.Machine.{Reads, PassesOr, AName, ANumber, Exactly, head, no_name};
+ghost use Rattle.cm_syntax.specs.inner.Machine as Machine;
 ghost use Rattle.cm_syntax.specs.Text as Text;
 ghost use Rattle.cm_syntax.specs.declared.fault.SyntaxFault.TheVariants as fault;
 
@@ -29,7 +30,7 @@ pub struct Reader<'a> {
 }
 
 impl<'a> Model for Reader<'a> {
-    ghost use Rattle.cm_syntax.specs.Machine.{Ahead};
+    ghost use Rattle.cm_syntax.specs.inner.Machine.{Ahead};
 
     ghost Value = { Ahead };
 
@@ -82,7 +83,7 @@ impl<'a> Reader<'a> {
     }
 
     /// Passes the next token and tells its place.
-    #[tactic(auto, unfolding(crate::specs::Machine::Passes, crate::specs::Machine::Halts))]
+    #[tactic(auto, unfolding(crate::specs::inner::Machine::Passes, crate::specs::inner::Machine::Halts))]
     pub fn pass(&mut self) -> Result<Place, SyntaxFault>
         ensures passes { PassesOr self.old self.new result }
         ensures shorter { IfOk result (λ x. length self.old.left ≡ length self.new.left + 1) }
@@ -152,9 +153,10 @@ impl<'a> Reader<'a> {
     }
 
     /// How many brackets are open after the next token.
-    #[tactic(auto, unfolding(crate::specs::Machine::Halts))]
+    #[tactic(auto, unfolding(crate::specs::inner::Machine::Halts))]
     fn opened_after(&self) -> Result<u64, SyntaxFault>
-        ensures ok { IfOk result (λ n. (p : Placed) × (rest : List Placed) × (self.now.left ≡ p ∷ rest) × (Text.too_deep self.now.opened p.token ≡ false) × (n ≡ Text.open_after self.now.opened p.token)) }
+        ensures ok { IfOk result (λ n. (p : Placed) × (rest : List Placed) × (self.now.left ≡ p ∷ rest)
+            × (Text.too_deep self.now.opened p.token ≡ false) × (n ≡ Text.open_after self.now.opened p.token)) }
         ensures err { IfErr result (λ e. Machine.Halts self.now e) }
     {
         match self.tokens.peek() {
@@ -166,7 +168,8 @@ impl<'a> Reader<'a> {
 
 /// How many brackets are open after a token, or `None` above the limit.
 fn opened_by(before: u64, token: &Token) -> Option<u64>
-    ensures { MatchOption result (Text.too_deep before token.now ≡ true) (λ n. (Text.too_deep before token.now ≡ false) × (n ≡ Text.open_after before token.now)) }
+    ensures { MatchOption result (Text.too_deep before token.now ≡ true) (λ n. (Text.too_deep before token.now ≡ false)
+        × (n ≡ Text.open_after before token.now)) }
 {
     match bracket_of(token) {
         Bracket::Opens if before >= limits::BRACKETS => None,
@@ -208,7 +211,8 @@ fn is_mark(mark: Mark, token: &Token) -> bool
 }
 
 fn take_name(tokens: &mut Tokens) -> Result<Option<Name>, NoMemory>
-    ensures { IfOk result (λ o. MatchOption o (no_name (head tokens.old) ≡ true) (λ n. (p : Placed) × (tokens.old ≡ p ∷ tokens.new) × (p.token ≡ token.Name n))) }
+    ensures { IfOk result (λ o. MatchOption o (no_name (head tokens.old) ≡ true) (λ n. (p : Placed)
+        × (tokens.old ≡ p ∷ tokens.new) × (p.token ≡ token.Name n))) }
 {
     match tokens.take()? {
         Some(placed) => Ok(name_of(placed.token)),

@@ -3,8 +3,9 @@
 ghost use Rattle.std.specs.Prelude.{◌≡◌, ◌<◌, ◌≤◌, IfOk, Some, true, length};
 ghost use Rattle.std.specs.Bool.{OnTrue, OnFalse};
 ghost use Rattle.cm_tokens.specs.declared.token.Token.TheVariants as token;
-ghost use Rattle.cm_syntax.specs.Machine as Machine;
-ghost use Rattle.cm_syntax.specs.Machine.{Reads, ABlock, Stmts, AStmt, Index, Else, head, starts_name, no_close_curly};
+ghost use Rattle.cm_syntax.specs.inner.Machine as Machine;
+ghost use Rattle.cm_syntax.specs.inner.Machine.{Reads, ABlock, Stmts, AStmt, Index, Else, head, starts_name};
+ghost use Rattle.cm_syntax.specs.inner.Machine.{no_close_curly};
 
 use crate::mark::Mark;
 use crate::reader::Reader;

@@ -2,7 +2,9 @@
 
 ghost use Rattle.std.specs.Prelude.{◌≡◌, ◌<◌, ◌≤◌, IfOk, Some, true, length};
 ghost use Rattle.cm_tokens.specs.declared.token.Token.TheVariants as token;
-ghost use Rattle.cm_syntax.specs.Machine.{Reads, ANum, AType, APart, MoreParts, Params, Internals, MoreNames, head, starts_number, starts_name};
+ghost use Rattle.cm_syntax.specs.inner.Machine.{Reads, ANum, AType, APart, MoreParts, Params, Internals, MoreNames};
+ghost use Rattle.cm_syntax.specs.inner.Machine.{head};
+ghost use Rattle.cm_syntax.specs.inner.Machine.{starts_number, starts_name};
 
 use crate::lists::with_first;
 use crate::mark::Mark;

@@ -6,7 +6,7 @@ ghost use Rattle.cm_tokens.specs.declared.token.Placed.{Placed};
 ghost use Rattle.cm_tokens.specs.declared.token.Token.{Token};
 ghost use Rattle.cm_syntax.specs.Text as Text;
 ghost use Rattle.cm_syntax.specs.Text.{Reads, IsRight, GivesAnswer};
-ghost use Rattle.cm_syntax.specs.Machine.{Answers, head};
+ghost use Rattle.cm_syntax.specs.inner.Machine.{Answers, head};
 ghost use Rattle.cm_syntax.specs.declared.tree.Tree.{Tree};
 ghost use Rattle.cm_syntax.specs.declared.fault.SyntaxFault.{SyntaxFault};
 ghost use Rattle.cm_syntax.specs.declared.fault.SyntaxFault.TheVariants as fault;
@@ -48,7 +48,8 @@ fn read_whole(reader: &mut Reader) -> Result<Tree, SyntaxFault>
 
 fn nothing_left(reader: &Reader) -> Result<(), SyntaxFault>
     ensures ok { IfOk result (λ u. head reader.now.left ≡ None) }
-    ensures err { IfErr result (λ e. (t : Token) × (head reader.now.left ≡ Some t) × (e ≡ fault.Syntax (Text.place_of reader.now.left))) }
+    ensures err { IfErr result (λ e. (t : Token) × (head reader.now.left ≡ Some t)
+        × (e ≡ fault.Syntax (Text.place_of reader.now.left))) }
 {
     match reader.peek() {
         None => Ok(()),

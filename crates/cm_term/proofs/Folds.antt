@@ -6,7 +6,8 @@ use Rattle.cm_term.specs.declared.atom.Tag.{Tag}
 use Rattle.cm_term.specs.declared.atom.OptVar.{OptVar}
 use Rattle.cm_term.specs.declared.term.Term.{Term}
 use Rattle.cm_term.specs.declared.term.Term.TheVariants as term
-use Rattle.cm_term.specs.declared.term.Term.TheVariants.{rolls-Elem, rolls-Num, rolls-Tag, rolls-Rec, rolls-None, rolls-Some, rolls-Either}
+use Rattle.cm_term.specs.declared.term.Term.TheVariants.{rolls-Elem, rolls-Num, rolls-Tag, rolls-Rec, rolls-None}
+use Rattle.cm_term.specs.declared.term.Term.TheVariants.{rolls-Some, rolls-Either}
 use Rattle.cm_term.specs.declared.term.Term.TheOpen.{Term-F}
 use Rattle.cm_term.specs.declared.term.Term.TheFolds.{fold-Term, fold-roll-Term}
 

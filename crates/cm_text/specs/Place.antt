@@ -9,7 +9,8 @@ is_newline byte = byte == 10
 abbrev pub is_in_line : ℕ → Bool
 is_in_line byte = not (is_newline byte)
 
--- the place behind so many bytes: one line more than the newlines among them, and one column more than the bytes since the last newline
+-- the place behind so many bytes: one line more than the newlines among them, and one column more than the bytes
+-- since the last newline
 unfoldable pub place_in : List ℕ → ℕ → Place
 place_in text n = record {
   line = 1 + count_by is_newline (take n text);

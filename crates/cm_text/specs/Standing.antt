@@ -8,7 +8,8 @@ pub record Standing : Type 0 where
   pub at : ℕ
 
 abbrev pub standing_code : Coded Standing
-standing_code = code_by (List ℕ × ℕ) (coded× (coded_list coded_ℕ) coded_ℕ) (λ s. (s.text, s.at)) (λ p. record { text = p.0; at = p.1 }) (λ _. refl)
+standing_code = code_by (List ℕ × ℕ) (coded× (coded_list coded_ℕ) coded_ℕ) (λ s. (s.text, s.at))
+    (λ p. record { text = p.0; at = p.1 }) (λ _. refl)
 
 -- what a cursor keeps: the line that it is in, and how many bytes stand before that line
 pub record IsKept (text : List ℕ) (at line before : ℕ) : Type 0 where

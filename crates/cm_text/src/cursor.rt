@@ -55,7 +55,10 @@ impl<'a> Cursor<'a> {
     #[inline(always)]
     pub fn next(&mut self) -> Option<u8>
         ensures gives { result ≡ slice_get self.old.text self.old.at }
-        ensures moves { MatchOption result (self.new ≡ self.old) (λ _. self.new ≡ record self.old { at = self.old.at + 1 }) }
+        ensures moves { MatchOption result (self.new ≡ self.old) (λ _. self.new ≡ record self.old {
+          at =
+              self.old.at + 1;
+        }) }
     {
         let Some(byte) = self.peek() else {
             return None;

@@ -1,6 +1,7 @@
 //! A number at the front of a text.
 
-ghost use Rattle.std.specs.Prelude.{◌≡◌, ◌≢◌, ℕ, ◌+◌, ◌*◌, List, ◌++◌, ◌≤◌, ◌<◌, ◌^◌, ◌%◌, decimal, length, slice_index, take, MatchBool, MatchOption};
+ghost use Rattle.std.specs.Prelude.{◌≡◌, ◌≢◌, ℕ, ◌+◌, ◌*◌, List, ◌++◌, ◌≤◌, ◌<◌, ◌^◌, ◌%◌, decimal, length};
+ghost use Rattle.std.specs.Prelude.{slice_index, take, MatchBool, MatchOption};
 ghost use Rattle.std.specs.Str.Parse.{digits_value};
 ghost use Rattle.cm_text.specs.Numeral.{BeginsWithDigit, hexadecimal, numeral};
 ghost use Rattle.cm_text.specs.Run.{IsRun, WritesMore};

@@ -1,6 +1,7 @@
 //! A text that is the numeral of a number with a sign.
 
-ghost use Rattle.std.specs.Prelude.{◌≡◌, ◌≢◌, ℤ, pos, ◌≤ℤ◌, ℕ, suc, ◌∷◌, ◌++◌, ◌<◌, ◌^◌, decimal, FitsSigned, IfOk, MatchBool, OnOk, OnErr};
+ghost use Rattle.std.specs.Prelude.{◌≡◌, ◌≢◌, ℤ, pos, ◌≤ℤ◌, ℕ, suc, ◌∷◌, ◌++◌, ◌<◌, ◌^◌, decimal, FitsSigned, IfOk};
+ghost use Rattle.std.specs.Prelude.{MatchBool, OnOk, OnErr};
 ghost use Rattle.std.specs.Fmt.{signed_decimal};
 ghost use Rattle.std.specs.Int.{w64};
 

@@ -1,5 +1,6 @@
 -- The end is the last token of a text, and only the last.
-use Rattle.std.proofs.Common.{arith, ◌≡◌, ◌≢◌, ℕ, zero, suc, ◌+◌, ◌<◌, ◌≤◌, ◌||◌, Bool, true, false, cond, nat_eq, nat_le, nat_lt, take_while, List, [], ◌∷◌, drop, length, ap, sym, refl, ◌∙◌}
+use Rattle.std.proofs.Common.{arith, ◌≡◌, ◌≢◌, ℕ, zero, suc, ◌+◌, ◌<◌, ◌≤◌, ◌||◌, Bool, true, false, cond, nat_eq}
+use Rattle.std.proofs.Common.{nat_le, nat_lt, take_while, List, [], ◌∷◌, drop, length, ap, sym, refl, ◌∙◌}
 use Rattle.std.specs.Char.{is_ascii_alphabetic, is_ascii_digit}
 use Rattle.std.specs.List.{starts_with}
 use Rattle.std.specs.Str.{bytes_eq}
@@ -36,7 +37,8 @@ either_no_end : (b : Bool) (s t : Token) → is_end s ≡ false → is_end t ≡
 either_no_end true s t e f = e
 either_no_end false s t e f = f
 
-spelled_no_end : (other : Token) (words : List (List ℕ × Token)) (run : List ℕ) → is_end other ≡ false → has_end words ≡ false → is_end (spelled_or other words run) ≡ false
+spelled_no_end : (other : Token) (words : List (List ℕ × Token)) (run : List ℕ) → is_end other ≡ false
+    → has_end words ≡ false → is_end (spelled_or other words run) ≡ false
 spelled_no_end other [] run none all = none
 spelled_no_end other (w ∷ ws) run none all =
     let parts = neither (is_end w.1) (has_end ws) all in
@@ -48,7 +50,8 @@ words_no_end = refl
 
 word_no_end : (run : List ℕ) → is_end (word_of run) ≡ false
 unfolding word_of
-word_no_end run = spelled_no_end (cond (nat_le (length run) 40) (token.Name run) token.Foreign) reserved_words run (either_no_end (nat_le (length run) 40) (token.Name run) token.Foreign refl refl) words_no_end
+word_no_end run = spelled_no_end (cond (nat_le (length run) 40) (token.Name run) token.Foreign) reserved_words
+    run (either_no_end (nat_le (length run) 40) (token.Name run) token.Foreign refl refl) words_no_end
 
 number_no_end : (digits : List ℕ) → is_end (number_of digits) ≡ false
 unfolding number_of
@@ -60,9 +63,11 @@ marks_no_end = refl
 
 mark_no_end : (ms : List (List ℕ × Token)) (text : List ℕ) → has_end ms ≡ false → is_end (mark_among ms text).0 ≡ false
 mark_no_end [] text all = refl
-mark_no_end (m ∷ ms) text all = by (starts_with nat_eq text m.0) (mark_no_end ms text (neither (is_end m.1) (has_end ms) all).1)
+mark_no_end (m ∷ ms) text all = by (starts_with nat_eq text m.0)
+    (mark_no_end ms text (neither (is_end m.1) (has_end ms) all).1)
   where
-    by : (t : Bool) → is_end (mark_among ms text).0 ≡ false → is_end (cond t (m.1, length m.0) (mark_among ms text)).0 ≡ false
+    by : (t : Bool) → is_end (mark_among ms text).0 ≡ false → is_end (cond t (m.1, length m.0) (mark_among ms text)).0
+        ≡ false
     by true rest = (neither (is_end m.1) (has_end ms) all).0
     by false rest = rest
 
@@ -70,7 +75,8 @@ first_no_end : (b : ℕ) (bs : List ℕ) → is_end (first_token (b ∷ bs)).0 �
 unfolding first_token mark_of
 first_no_end b bs = by (is_ascii_alphabetic b) (is_ascii_digit b)
   where
-    by : (l d : Bool) → is_end (cond l (run_of is_name_byte word_of (b ∷ bs)) (cond d (run_of is_ascii_digit number_of (b ∷ bs)) (mark_of (b ∷ bs)))).0 ≡ false
+    by : (l d : Bool) → is_end (cond l (run_of is_name_byte word_of (b ∷ bs))
+        (cond d (run_of is_ascii_digit number_of (b ∷ bs)) (mark_of (b ∷ bs)))).0 ≡ false
     by true d = word_no_end (take_while is_name_byte (b ∷ bs))
     by false true = number_no_end (take_while is_ascii_digit (b ∷ bs))
     by false false = mark_no_end marks (b ∷ bs) marks_no_end
@@ -87,21 +93,30 @@ more_ends : (p : Placed) (left : List Placed) → p.token ≢ token.End → Ends
 more_ends p [] other rest = absurd rest
 more_ends p (q ∷ qs) other rest = (other, rest)
 
-one_step : (text : List ℕ) (behind : ℕ) (more : Bool) (left : List Placed) → nat_lt (start text behind) (length text) ≡ more → (more ≡ true → EndsOnce left) → EndsOnce (next text behind ∷ cond more left [])
+one_step : (text : List ℕ) (behind : ℕ) (more : Bool) (left : List Placed)
+    → nat_lt (start text behind) (length text) ≡ more → (more ≡ true → EndsOnce left)
+    → EndsOnce (next text behind ∷ cond more left [])
 one_step text behind true left is rest =
-    let some : 0 < length (drop (start text behind) text) = omega (arith, length-drop (start text behind) text, (further text behind is).0) in
-    more_ends (next text behind) left (no_end (next text behind).token (some_no_end (drop (start text behind) text) some)) (rest refl)
+    let some : 0 < length (drop (start text behind) text) = omega (
+      arith,
+      length-drop (start text behind) text,
+      (further text behind is).0,
+    ) in
+    more_ends (next text behind) left (no_end (next text behind).token (some_no_end (drop (start text behind) text)
+    some)) (rest refl)
 one_step text behind false left is rest =
     let past : length text ≤ start text behind = grind (arith, nat_tests) in
     none_end (drop (start text behind) text) (drop_all (start text behind) text past)
 
-within_ends : (m : ℕ) (text : List ℕ) (behind : ℕ) → length text ≤ m + behind → EndsOnce (tokens_within (suc m) text behind)
+within_ends : (m : ℕ) (text : List ℕ) (behind : ℕ) → length text ≤ m + behind
+    → EndsOnce (tokens_within (suc m) text behind)
 unfolding tokens_within
 within_ends zero text behind fits =
     one_step text behind (nat_lt (start text behind) (length text)) (tokens_within zero text (after text behind)) refl
     (λ within. absurd (omega (arith, fits, (further text behind within).0)))
 within_ends (suc m) text behind fits =
-    one_step text behind (nat_lt (start text behind) (length text)) (tokens_within (suc m) text (after text behind)) refl
+    one_step text behind (nat_lt (start text behind) (length text)) (tokens_within (suc m) text (after text behind))
+    refl
     (λ within. within_ends m text (after text behind) (omega (arith, fits, further text behind within)))
 
 pub all_end_once : (text : List ℕ) → EndsOnce (tokens_of text)

@@ -1,5 +1,6 @@
 -- How many bytes the first token takes: at least one where there is one, and none of them a newline.
-use Rattle.std.proofs.Common.{arith, ◌≡◌, ℕ, ◌+◌, ◌<◌, ◌≤◌, ◌&&◌, ◌||◌, Bool, true, false, cond, eqb, nat_eq, List, [], ◌∷◌, length, ap, sym, refl, ◌∙◌}
+use Rattle.std.proofs.Common.{arith, ◌≡◌, ℕ, ◌+◌, ◌<◌, ◌≤◌, ◌&&◌, ◌||◌, Bool, true, false, cond, eqb, nat_eq, List, []}
+use Rattle.std.proofs.Common.{◌∷◌, length, ap, sym, refl, ◌∙◌}
 use Rattle.std.specs.Char.{is_ascii_alphabetic, is_ascii_digit}
 use Rattle.std.specs.List.{prefix_len, starts_with}
 use Rattle.std.proofs.lemmas.Bool.{eqb-true, false≢true}
@@ -25,7 +26,8 @@ narrower : (p q : ℕ → Bool) → ((b : ℕ) → p b ≡ true → q b ≡ true
 narrower p q wider [] = omega arith
 narrower p q wider (b ∷ bs) = by (p b) refl (narrower p q wider bs)
   where
-    by : (t : Bool) → p b ≡ t → prefix_len p bs ≤ prefix_len q bs → cond t (1 + prefix_len p bs) 0 ≤ prefix_len q (b ∷ bs)
+    by : (t : Bool) → p b ≡ t → prefix_len p bs ≤ prefix_len q bs
+        → cond t (1 + prefix_len p bs) 0 ≤ prefix_len q (b ∷ bs)
     by true passes less = omega (arith, less, one_more q b bs (wider b passes))
     by false fails less = omega arith
 
@@ -38,7 +40,8 @@ digit_in_line b digit = grind (arith, nat_tests)
 letter_is_name_byte : (b : ℕ) → is_ascii_alphabetic b ≡ true → is_name_byte b ≡ true
 letter_is_name_byte b letter = grind (arith, nat_tests)
 
-run_within : (p : ℕ → Bool) (token_of : List ℕ → Token) (b : ℕ) (bs : List ℕ) → ((c : ℕ) → p c ≡ true → is_in_line c ≡ true) → p b ≡ true → IsWithinLine (b ∷ bs) (run_of p token_of (b ∷ bs)).1
+run_within : (p : ℕ → Bool) (token_of : List ℕ → Token) (b : ℕ) (bs : List ℕ)
+    → ((c : ℕ) → p c ≡ true → is_in_line c ≡ true) → p b ≡ true → IsWithinLine (b ∷ bs) (run_of p token_of (b ∷ bs)).1
 run_within p token_of b bs in_line passes =
     let len : (run_of p token_of (b ∷ bs)).1 ≡ prefix_len p (b ∷ bs) = length-prefix_len p (b ∷ bs) in
     record {
@@ -62,7 +65,8 @@ abbrev are_in_lines : List (List ℕ × Token) → Bool
 are_in_lines [] = true
 are_in_lines (m ∷ ms) = is_in_one_line_some m.0 && are_in_lines ms
 
-begins_within : (spelling text : List ℕ) → is_in_one_line spelling ≡ true → starts_with nat_eq text spelling ≡ true → length spelling ≤ prefix_len is_in_line text
+begins_within : (spelling text : List ℕ) → is_in_one_line spelling ≡ true → starts_with nat_eq text spelling ≡ true
+    → length spelling ≤ prefix_len is_in_line text
 begins_within [] text all begins = omega arith
 begins_within (c ∷ cs) [] all begins = absurd (false≢true begins)
 begins_within (c ∷ cs) (b ∷ bs) all begins =
@@ -71,15 +75,23 @@ begins_within (c ∷ cs) (b ∷ bs) all begins =
     let here : is_in_line b ≡ true = ap is_in_line (sym (eqb-true c b same.0)) ∙ first.0 in
     omega (arith, one_more is_in_line b bs here, begins_within cs bs first.1 same.1)
 
-spelling_within : (spelling text : List ℕ) → is_in_one_line_some spelling ≡ true → starts_with nat_eq text spelling ≡ true → IsWithinLine text (length spelling)
+spelling_within : (spelling text : List ℕ) → is_in_one_line_some spelling ≡ true
+    → starts_with nat_eq text spelling ≡ true → IsWithinLine text (length spelling)
 spelling_within [] text all begins = absurd (false≢true all)
-spelling_within (c ∷ cs) text all begins = record { some = omega arith; in_line = begins_within (c ∷ cs) text all begins }
+spelling_within (c ∷ cs) text all begins = record {
+  some = omega arith;
+  in_line =
+      begins_within (c ∷ cs) text all begins;
+}
 
-mark_within : (ms : List (List ℕ × Token)) (text : List ℕ) → are_in_lines ms ≡ true → 1 ≤ prefix_len is_in_line text → IsWithinLine text (mark_among ms text).1
+mark_within : (ms : List (List ℕ × Token)) (text : List ℕ) → are_in_lines ms ≡ true → 1 ≤ prefix_len is_in_line text
+    → IsWithinLine text (mark_among ms text).1
 mark_within [] text all some = record { some = omega arith; in_line = some }
-mark_within (m ∷ ms) text all some = by (starts_with nat_eq text m.0) refl (mark_within ms text (both (is_in_one_line_some m.0) (are_in_lines ms) all).1 some)
+mark_within (m ∷ ms) text all some = by (starts_with nat_eq text m.0) refl
+    (mark_within ms text (both (is_in_one_line_some m.0) (are_in_lines ms) all).1 some)
   where
-    by : (t : Bool) → starts_with nat_eq text m.0 ≡ t → IsWithinLine text (mark_among ms text).1 → IsWithinLine text (cond t (m.1, length m.0) (mark_among ms text)).1
+    by : (t : Bool) → starts_with nat_eq text m.0 ≡ t → IsWithinLine text (mark_among ms text).1
+        → IsWithinLine text (cond t (m.1, length m.0) (mark_among ms text)).1
     by true begins rest = spelling_within m.0 text (both (is_in_one_line_some m.0) (are_in_lines ms) all).0 begins
     by false begins rest = rest
 
@@ -105,7 +117,9 @@ first_within b bs none = by (is_ascii_alphabetic b) (is_ascii_digit b) refl refl
     some : 1 ≤ prefix_len is_in_line (b ∷ bs)
     some = omega (arith, one_more is_in_line b bs (space_in_line b (not_space b bs none)))
 
-    by : (l d : Bool) → is_ascii_alphabetic b ≡ l → is_ascii_digit b ≡ d → IsWithinLine (b ∷ bs) (cond l (run_of is_name_byte word_of (b ∷ bs)) (cond d (run_of is_ascii_digit number_of (b ∷ bs)) (mark_of (b ∷ bs)))).1
+    by : (l d : Bool) → is_ascii_alphabetic b ≡ l → is_ascii_digit b ≡ d
+        → IsWithinLine (b ∷ bs) (cond l (run_of is_name_byte word_of (b ∷ bs))
+        (cond d (run_of is_ascii_digit number_of (b ∷ bs)) (mark_of (b ∷ bs)))).1
     by true d letter digit = run_within is_name_byte word_of b bs name_in_line (letter_is_name_byte b letter)
     by false true letter digit = run_within is_ascii_digit number_of b bs digit_in_line digit
     by false false letter digit = mark_within marks (b ∷ bs) marks_in_line some

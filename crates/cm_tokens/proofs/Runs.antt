@@ -1,5 +1,6 @@
 -- Runs of bytes of a kind.
-use Rattle.std.proofs.Common.{arith, ◌≡◌, ℕ, ◌+◌, ◌-◌, ◌*◌, ◌<◌, ◌≤◌, Bool, true, List, [], ◌∷◌, take, length, get_or, ap, ◌∙◌}
+use Rattle.std.proofs.Common.{arith, ◌≡◌, ℕ, ◌+◌, ◌-◌, ◌*◌, ◌<◌, ◌≤◌, Bool, true, List, [], ◌∷◌, take, length, get_or}
+use Rattle.std.proofs.Common.{ap, ◌∙◌}
 use Rattle.std.specs.Char.{digit_value, is_ascii_digit}
 use Rattle.std.specs.List.{AllPass, prefix_len}
 use Rattle.std.specs.Str.{IsUtf8}
@@ -26,7 +27,8 @@ name_byte_below : (b : ℕ) → is_name_byte b ≡ true → b < 128
 name_byte_below b name = grind (arith, nat_tests)
 
 pub name_utf8 : (run : List ℕ) → AllPass is_name_byte run → IsUtf8 run
-name_utf8 run all = IsUtf8-from_ascii run (IsAscii-from_all run (All-weaker (λ b. is_name_byte b ≡ true) (λ b. b < 128) name_byte_below run all))
+name_utf8 run all = IsUtf8-from_ascii run (IsAscii-from_all run (All-weaker (λ b. is_name_byte b ≡ true)
+    (λ b. b < 128) name_byte_below run all))
 
 pub digit_bounds : (b : ℕ) → is_ascii_digit b ≡ true → (48 ≤ b) × (b ≤ 57) × (digit_value b + 48 ≡ b)
 digit_bounds b digit =
@@ -41,12 +43,20 @@ digits_all (b ∷ bs) all =
     (omega (arith, here.1, here.2), digits_all bs (All-tail (λ b. is_ascii_digit b ≡ true) b bs all))
 
 -- at most seven digits write a number below ten million, and so do fewer of them
-pub value_short : (digits : List ℕ) (i : ℕ) → AllPass is_ascii_digit digits → length digits ≤ 7 → digits_value 10 (take i digits) < 10000000
+pub value_short : (digits : List ℕ) (i : ℕ) → AllPass is_ascii_digit digits → length digits ≤ 7
+    → digits_value 10 (take i digits) < 10000000
 value_short digits i all short =
-    omega (arith, digits_value-take-le 10 digits i (omega arith), digits_value-lt 10 digits (digits_all digits all), pow-le-pow_right {n = 10} (omega arith) short)
+    omega (
+      arith,
+      digits_value-take-le 10 digits i (omega arith),
+      digits_value-lt 10 digits (digits_all digits all),
+      pow-le-pow_right {n = 10} (omega arith) short,
+    )
 
 -- one digit more
-pub value_more : (digits : List ℕ) (i : ℕ) → AllPass is_ascii_digit digits → i < length digits → (48 ≤ get_or digits i 0) × (get_or digits i 0 ≤ 57) × (digits_value 10 (take (i + 1) digits) ≡ digits_value 10 (take i digits) * 10 + (get_or digits i 0 - 48))
+pub value_more : (digits : List ℕ) (i : ℕ) → AllPass is_ascii_digit digits → i < length digits
+    → (48 ≤ get_or digits i 0) × (get_or digits i 0 ≤ 57)
+    × (digits_value 10 (take (i + 1) digits) ≡ digits_value 10 (take i digits) * 10 + (get_or digits i 0 - 48))
 value_more digits i all within =
     let here = digit_bounds (get_or digits i 0) (All-get_or (λ b. is_ascii_digit b ≡ true) digits i 0 within all) in
     (here.0, here.1, omega (arith, digits_value_more 10 digits i within, here.2))

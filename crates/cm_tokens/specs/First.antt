@@ -1,5 +1,6 @@
 -- The token at the front of a text, and how many bytes it takes: the longest one.
-use Rattle.std.specs.Prelude.{◌==◌, ◌||◌, ◌&&◌, if◌then◌else◌, nat_eq, nat_le, not, ℕ, Bool, List, [], ◌∷◌, codes, length, slice_index, take_while}
+use Rattle.std.specs.Prelude.{◌==◌, ◌||◌, ◌&&◌, if◌then◌else◌, nat_eq, nat_le, not, ℕ, Bool, List, [], ◌∷◌, codes}
+use Rattle.std.specs.Prelude.{length, slice_index, take_while}
 use Rattle.std.specs.Char.{is_ascii_alphabetic, is_ascii_digit}
 use Rattle.std.specs.List.{starts_with}
 use Rattle.std.specs.Str.{bytes_eq}

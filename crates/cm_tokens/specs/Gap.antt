@@ -13,7 +13,8 @@ begins_comment (a ∷ b ∷ rest) = a == 47 && b == 47
 abbrev pub gap_from : Bool → List ℕ → ℕ
 gap_from in_comment [] = 0
 gap_from true (b ∷ bs) = 1 + gap_from (is_in_line b) bs
-gap_from false (b ∷ bs) = let comment = begins_comment (b ∷ bs) in if is_space b || comment then 1 + gap_from comment bs else 0
+gap_from false (b ∷ bs) = let comment = begins_comment (b ∷ bs) in
+    if is_space b || comment then 1 + gap_from comment bs else 0
 
 -- how many bytes of spaces and comments stand at the front
 unfoldable pub gap_of : List ℕ → ℕ

@@ -12,7 +12,8 @@ tokens_within zero text behind = []
 tokens_within (suc more) text behind =
     let at = behind + gap_of (drop behind text) in
     let first = first_token (drop at text) in
-    record { token = first.0; at = place_in text at } ∷ (if nat_lt at (length text) then tokens_within more text (at + first.1) else [])
+    record { token = first.0; at = place_in text at } ∷ (if nat_lt at (length text) then tokens_within
+    more text (at + first.1) else [])
 
 -- all of them: each token but the end takes a byte
 unfoldable pub tokens_behind : List ℕ → ℕ → List Placed

@@ -17,8 +17,10 @@ fn begins_comment(text: &[u8]) -> bool
 #[inline(always)]
 fn skip_one(cursor: &mut Cursor<'_>) -> bool
     ensures text { cursor.new.text ≡ cursor.old.text }
-    ensures gap { cursor.new.at + gap_of (drop cursor.new.at cursor.new.text) ≡ cursor.old.at + gap_of (drop cursor.old.at cursor.old.text) }
-    ensures moves { MatchBool result (cursor.old.at < cursor.new.at) ((cursor.new ≡ cursor.old) × (gap_of (drop cursor.old.at cursor.old.text) ≡ 0)) }
+    ensures gap { cursor.new.at + gap_of (drop cursor.new.at cursor.new.text) ≡ cursor.old.at + gap_of
+        (drop cursor.old.at cursor.old.text) }
+    ensures moves { MatchBool result (cursor.old.at < cursor.new.at) ((cursor.new ≡ cursor.old)
+        × (gap_of (drop cursor.old.at cursor.old.text) ≡ 0)) }
 {
     let Some(byte) = cursor.peek() else {
         return false;

@@ -14,7 +14,8 @@ use std::marker::Model;
 
 // The next token with its place, and whether it is the end.
 fn read(alloc: Global, cursor: &mut Cursor<'_>) -> Result<(Placed, bool), NoMemory>
-    ensures { IfOk result (λ next. tokens_behind cursor.old.text cursor.old.at ≡ next.0 ∷ (if next.1 then [] else tokens_behind cursor.new.text cursor.new.at)) }
+    ensures { IfOk result (λ next. tokens_behind cursor.old.text cursor.old.at ≡ next.0
+        ∷ (if next.1 then [] else tokens_behind cursor.new.text cursor.new.at)) }
 {
     skip_gap(cursor);
     let at = cursor.place();
@@ -72,7 +73,8 @@ impl<'a> Tokens<'a> {
     /// The token that comes next; none after the end was taken.
     #[inline(always)]
     pub fn peek(&self) -> Option<&Token>
-        ensures next { MatchOption result (self.now ≡ []) (λ token. (p : Placed) × (rest : List Placed) × (self.now ≡ p ∷ rest) × (token.now ≡ p.token)) }
+        ensures next { MatchOption result (self.now ≡ []) (λ token. (p : Placed) × (rest : List Placed)
+            × (self.now ≡ p ∷ rest) × (token.now ≡ p.token)) }
     {
         match &self.next {
             Some(next) => Some(&next.token),
@@ -93,7 +95,8 @@ impl<'a> Tokens<'a> {
     /// Takes the token that comes next; the end is taken like another, and nothing after it. Where memory runs
     /// out, what is left is not said.
     pub fn take(&mut self) -> Result<Option<Placed>, NoMemory>
-        ensures taken { IfOk result (λ taken. MatchOption taken ((self.old ≡ []) × (self.new ≡ [])) (λ p. self.old ≡ p ∷ self.new)) }
+        ensures taken { IfOk result (λ taken. MatchOption taken ((self.old ≡ []) × (self.new ≡ []))
+            (λ p. self.old ≡ p ∷ self.new)) }
     {
         if self.ended {
             return Ok(self.next.take());

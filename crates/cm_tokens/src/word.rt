@@ -30,7 +30,10 @@ fn either(
     second: &[u8],
     second_token: Token,
 ) -> Option<Token>
-    ensures { (other : Token) → unwrap_or result other ≡ spelled_or other ((first.now, first_token) ∷ (second.now, second_token) ∷ []) run.now }
+    ensures { (other : Token) → unwrap_or result other ≡ spelled_or other ((first.now, first_token) ∷ (
+      second.now,
+      second_token,
+    ) ∷ []) run.now }
 {
     if run == first {
         return Some(first_token);

@@ -1,5 +1,6 @@
 -- A file, fetched from its beginning on.
-use Rattle.std.proofs.Common.{arith, ◌≡◌, ℕ, ◌<◌, ◌≤◌, List, [], ◌∷◌, ◌++◌, length, take, drop, None, Some, Ok, Option, ap, sym, subst, ◌∙◌, length-append, append_assoc}
+use Rattle.std.proofs.Common.{arith, ◌≡◌, ℕ, ◌<◌, ◌≤◌, List, [], ◌∷◌, ◌++◌, length, take, drop, None, Some, Ok, Option}
+use Rattle.std.proofs.Common.{ap, sym, subst, ◌∙◌, length-append, append_assoc}
 use Rattle.std.proofs.lemmas.List.{append-nil, length-take, length-drop, take_at, take-append-drop}
 use Rattle.cm_io.specs.Shelf.{GivesFrom, Fetches}
 use Rattle.cm_io.specs.declared.Failed.{Failed}

@@ -5,10 +5,11 @@ use Rattle.cm_mtrace.specs.Trace.{IsFirstBad, Section}
 use Rattle.cm_mtrace.proofs.Bad.{trace_good}
 use Rattle.cm_top.specs.Judging.{IsJudged, IsJudgedInPart, IsRefusedAt, IsWithin}
 use Rattle.cm_top.specs.Fetch.{OfFile}
-use Rattle.cm_top.specs.Output.{AreAllConflicts, IsJudgement, TakesFront, closing, header, joined, section_texts, judge_status}
-use Rattle.cm_top.specs.Pieces.{piece_of, pieces_of}
-use Rattle.cm_top.specs.Run.{IsJudgedAs}
-use Rattle.cm_top.specs.Sections.{AreJudged}
+use Rattle.cm_top.specs.Output.{AreAllConflicts, IsJudgement, TakesFront, closing, header, joined, section_texts}
+use Rattle.cm_top.specs.Output.{judge_status}
+use Rattle.cm_top.specs.inner.Pieces.{piece_of, pieces_of}
+use Rattle.cm_top.specs.inner.Run.{IsJudgedAs}
+use Rattle.cm_top.specs.inner.Sections.{AreJudged}
 use Rattle.cm_top.specs.declared.sections.Judged.{Judged}
 use Rattle.cm_top.specs.declared.status.Status.{Status}
 

@@ -1,15 +1,18 @@
 -- What a sink took of several pieces.
-use Rattle.std.proofs.Common.{arith, ◌≡◌, ℕ, ◌+◌, ◌<◌, List, [], ◌∷◌, ◌++◌, length, map, take, drop, get_or, None, Some, Option, Ok, Err, Result, ap, sym, subst, refl, ◌∙◌, OnErr, inl, inr, append_assoc, add-one, drop-cons}
+use Rattle.std.proofs.Common.{arith, ◌≡◌, ℕ, ◌+◌, ◌<◌, List, [], ◌∷◌, ◌++◌, length, map, take, drop, get_or, None, Some}
+use Rattle.std.proofs.Common.{Option, Ok, Err, Result, ap, sym, subst, refl, ◌∙◌, OnErr, inl, inr, append_assoc}
+use Rattle.std.proofs.Common.{add-one, drop-cons}
 use Rattle.std.specs.Io.KnownBytes.{Appends}
 use Rattle.std.proofs.lemmas.Bool.{cases_lt}
-use Rattle.std.proofs.lemmas.List.{append-nil, map-append, take_all, take_at, take-append-drop, take-append-le, take_more}
+use Rattle.std.proofs.lemmas.List.{append-nil, map-append, take_all, take_at, take-append-drop, take-append-le}
+use Rattle.std.proofs.lemmas.List.{take_more}
 use Rattle.std.proofs.lemmas.List.Concat.{flat_map-append}
 use Rattle.std.proofs.Math.Seq.{take-append-add}
 use Rattle.cm_io.specs.Causes.{Rose}
 use Rattle.cm_io.specs.Sink.{PutTakes, TakesPart}
 use Rattle.cm_top.specs.Endings.{Tells}
 use Rattle.cm_top.specs.Output.{TakesFront, joined}
-use Rattle.cm_top.specs.Pieces.{PutsAll}
+use Rattle.cm_top.specs.inner.Pieces.{PutsAll}
 
 pub joined-append : (ps qs : List (List ℕ)) → joined (ps ++ qs) ≡ joined ps ++ joined qs
 joined-append ps qs = flat_map-append (λ p. p) ps qs

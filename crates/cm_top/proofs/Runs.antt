@@ -1,5 +1,6 @@
 -- A run over a piece more.
-use Rattle.std.proofs.Common.{◌≡◌, ℕ, ◌+◌, ◌<◌, List, [], ◌∷◌, ◌++◌, length, take, drop, get_or, Some, Option, Result, Err, IfSome, ap, sym, subst, refl, ◌∙◌, append_assoc, add-one, drop-cons}
+use Rattle.std.proofs.Common.{◌≡◌, ℕ, ◌+◌, ◌<◌, List, [], ◌∷◌, ◌++◌, length, take, drop, get_or, Some, Option, Result}
+use Rattle.std.proofs.Common.{Err, IfSome, ap, sym, subst, refl, ◌∙◌, append_assoc, add-one, drop-cons}
 use Rattle.std.proofs.lemmas.List.{append-nil, take-append-drop, take_more}
 use Rattle.std.proofs.lemmas.List.Elements.{All-cons, All-head, All-nil, All-tail}
 use Rattle.std.specs.List.{All}
@@ -8,7 +9,7 @@ use Rattle.cm_mtrace.specs.Trace.{IsFirstBad, IsItem}
 use Rattle.cm_mtrace.specs.declared.Item.{Item}
 use Rattle.cm_mtrace.specs.declared.TraceFault.{TraceFault}
 use Rattle.cm_mtrace.specs.declared.TraceFault.TheVariants.{BadLine, Memory}
-use Rattle.cm_top.specs.Run.{NamesBad}
+use Rattle.cm_top.specs.inner.Run.{NamesBad}
 
 -- the items before one, that one, and those behind it
 pub around : (before its rest : List Item) (i : ℕ) (d : Item) → i < length its

@@ -1,5 +1,6 @@
 -- One more item of a trace that is being judged.
-use Rattle.std.proofs.Common.{◌≡◌, ℕ, List, [], ◌∷◌, ◌++◌, map, None, Some, Option, Result, Ok, Err, OnOk, ap, sym, subst, refl, ◌∙◌, append_assoc}
+use Rattle.std.proofs.Common.{◌≡◌, ℕ, List, [], ◌∷◌, ◌++◌, map, None, Some, Option, Result, Ok, Err, OnOk, ap, sym}
+use Rattle.std.proofs.Common.{subst, refl, ◌∙◌, append_assoc}
 use Rattle.std.proofs.lemmas.List.{append-nil, map-append}
 use Rattle.std.proofs.lemmas.List.Concat.{flat_map-append}
 use Rattle.cm_judge.specs.Conflicts.{AreConflictLines}
@@ -8,7 +9,7 @@ use Rattle.cm_mtrace.specs.Trace.{Section, items_of}
 use Rattle.cm_mtrace.specs.declared.Entry.{Entry}
 use Rattle.cm_mtrace.specs.declared.Item.{Item}
 use Rattle.cm_mtrace.specs.declared.Item.TheVariants as items
-use Rattle.cm_top.specs.Sections.{AreJudged, HaveFrom}
+use Rattle.cm_top.specs.inner.Sections.{AreJudged, HaveFrom}
 use Rattle.cm_top.specs.declared.sections.Judged.{Judged}
 use Rattle.cm_top.specs.declared.sections.Sections.{Sections}
 

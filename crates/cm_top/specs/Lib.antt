@@ -3,8 +3,6 @@ pub mod Fetch
 pub mod Files
 pub mod Judging
 pub mod Output
-pub mod Pieces
-pub mod Run
-pub mod Sections
 pub mod Status
 pub mod Tasks
+pub mod inner

@@ -1,7 +1,8 @@
 -- The exit status of the process.
 use Rattle.std.specs.Prelude.{ℕ}
 use Rattle.cm_top.specs.declared.status.Status.{Status}
-use Rattle.cm_top.specs.declared.status.Status.TheVariants.{Done, Refused, Usage, ReadFault, WriteFault, Memory, Over, TooLong, Conflicts}
+use Rattle.cm_top.specs.declared.status.Status.TheVariants.{Done, Refused, Usage, ReadFault, WriteFault, Memory, Over}
+use Rattle.cm_top.specs.declared.status.Status.TheVariants.{TooLong, Conflicts}
 
 abbrev pub number_of : Status → ℕ
 number_of Done = 0

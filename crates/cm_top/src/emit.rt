@@ -4,7 +4,7 @@ ghost use Rattle.std.specs.Prelude.{◌≡◌, ◌∷◌, ◌++◌, ◌≤◌, [
 ghost use Rattle.cm_io.specs.Causes.{Rose};
 ghost use Rattle.cm_io.specs.Sink.{PutTakes};
 ghost use Rattle.cm_top.specs.Output.{closing, header};
-ghost use Rattle.cm_top.specs.Pieces.{PutsAll, piece_of, pieces_of};
+ghost use Rattle.cm_top.specs.inner.Pieces.{PutsAll, piece_of, pieces_of};
 
 use crate::output::push_section;
 use crate::sections::Judged;

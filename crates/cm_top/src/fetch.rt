@@ -4,7 +4,7 @@ ghost use Rattle.std.specs.Prelude.{◌≡◌, [], ◌+◌, ◌<◌, ◌≤◌, 
 ghost use Rattle.cm_io.specs.Causes.{Rose};
 ghost use Rattle.cm_io.specs.Shelf.{NoneFalls, SameFiles};
 ghost use Rattle.cm_top.specs.Fetch.{HoldsBytes, HoldsFront, IsFetchStop, IsReadStop, OfFile};
-ghost use Rattle.cm_top.specs.Run.{HasRead, count_of};
+ghost use Rattle.cm_top.specs.inner.Run.{HasRead, count_of};
 
 use crate::run::Run;
 use crate::stop::Stop;

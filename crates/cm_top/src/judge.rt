@@ -7,7 +7,7 @@ ghost use Rattle.cm_top.specs.Judging.{IsJudged, IsJudgedInPart, IsRefusedAt, Is
 ghost use Rattle.cm_top.specs.Endings.{IsEnding};
 ghost use Rattle.cm_top.specs.Fetch.{OfFile};
 ghost use Rattle.cm_top.specs.Output.{IsEnd, judge_status};
-ghost use Rattle.cm_top.specs.Run.{IsJudgedAs};
+ghost use Rattle.cm_top.specs.inner.Run.{IsJudgedAs};
 
 use crate::Status;
 use crate::emit::{Cut, put_all};

@@ -3,7 +3,7 @@
 ghost use Rattle.std.specs.Prelude.{◌≡◌, ◌+◌, ◌-◌, ◌^◌, ◌<◌, ◌≤◌, ◌++◌, [], ℕ, List, All, length, IfErr, IfOk, OnOk};
 ghost use Rattle.cm_mtrace.specs.Trace.{IsItem, Section, items_of};
 ghost use Rattle.cm_mtrace.specs.declared.Item.{Item};
-ghost use Rattle.cm_top.specs.Sections.{Have};
+ghost use Rattle.cm_top.specs.inner.Sections.{Have};
 
 use crate::sections::{Judged, Sections};
 use cm_model::NoMemory;
@@ -49,7 +49,7 @@ fn add_all(sections: &mut Sections, items: &[Item]) -> Result<(), NoMemory>
 
 impl Run {
     ghost use Rattle.cm_mtrace.specs.Reader.{StandsFor};
-    ghost use Rattle.cm_top.specs.Run.{HasRead, IsJudgedAs, NamesBad, count_of};
+    ghost use Rattle.cm_top.specs.inner.Run.{HasRead, IsJudgedAs, NamesBad, count_of};
 
     pub fn new(alloc: Global) -> Run
         ensures start { HasRead result [] }

@@ -26,7 +26,7 @@ pub struct Sections {
 }
 
 impl Sections {
-    ghost use Rattle.cm_top.specs.Sections.{AllEnded, AreJudged, Have};
+    ghost use Rattle.cm_top.specs.inner.Sections.{AllEnded, AreJudged, Have};
 
     pub fn new(alloc: Global) -> Sections
         ensures { Have result [] }

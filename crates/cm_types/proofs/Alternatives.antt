@@ -16,7 +16,8 @@ use Rattle.cm_syntax.specs.declared.tree.Expr.TheVariants as expr
 use Rattle.cm_syntax.specs.declared.tree.Cmp.{Cmp}
 use Rattle.cm_syntax.specs.declared.tree.Cmp.TheVariants as cmp
 use Rattle.cm_syntax.specs.declared.tree.Cmp.TheOpen as layer
-use Rattle.cm_syntax.specs.declared.tree.Cmp.TheFolds.{fold-roll-Cmp, fold-roll-Expr, fold-roll-Primary, fold-roll-Sum, fold-roll-Unary, fold-roll-Post, fold-roll-Set}
+use Rattle.cm_syntax.specs.declared.tree.Cmp.TheFolds.{fold-roll-Cmp, fold-roll-Expr, fold-roll-Primary, fold-roll-Sum}
+use Rattle.cm_syntax.specs.declared.tree.Cmp.TheFolds.{fold-roll-Unary, fold-roll-Post, fold-roll-Set}
 use Rattle.cm_syntax.specs.declared.tree.Relation.{Relation}
 use Rattle.cm_syntax.specs.declared.tree.Sum.{Sum}
 use Rattle.cm_syntax.specs.declared.tree.Sum.TheVariants as sum
@@ -32,7 +33,9 @@ use Rattle.cm_types.specs.declared.scope.Scope.{Scope}
 use Rattle.cm_types.specs.Told.{Told}
 use Rattle.cm_types.specs.Names.{Names}
 use Rattle.cm_types.specs.Types.{type_step, type_told}
-use Rattle.cm_types.specs.Expressions.{Meaning, SetMeaning, cmp_step, expr_step, prim_step, sum_step, unary_step, post_step, set_step, cmp_told, expr_told, prim_told, sum_told, unary_told, post_told, set_told}
+use Rattle.cm_types.specs.Expressions.{Meaning, SetMeaning, cmp_step, expr_step, prim_step, sum_step, unary_step}
+use Rattle.cm_types.specs.Expressions.{post_step, set_step, cmp_told, expr_told, prim_told, sum_told, unary_told}
+use Rattle.cm_types.specs.Expressions.{post_told, set_told}
 use Rattle.cm_types.specs.Statements.{StmtMeaning, BlockMeaning, stmt_step, block_step, stmt_told, of_block}
 
 pub prim_Number : (p : Place) (b : Num) → prim_told (prim.Number p b) ≡ prim_step (layer.Number p b)

@@ -1,5 +1,7 @@
 -- From the answer of a walk to that of a whole check.
-use Rattle.std.proofs.Common.{◌≡◌, ℕ, zero, suc, ◌+◌, ◌≤◌, ◌<◌, ◌&&◌, leb, Bool, true, false, IsTrue, List, [], ◌∷◌, ◌++◌, length, slice_get, Option, Some, None, Result, Ok, Err, refl, sym, ap, ◌∙◌, subst, arith}
+use Rattle.std.proofs.Common.{◌≡◌, ℕ, zero, suc, ◌+◌, ◌≤◌, ◌<◌, ◌&&◌, leb, Bool, true, false, IsTrue, List, [], ◌∷◌}
+use Rattle.std.proofs.Common.{◌++◌, length, slice_get, Option, Some, None, Result, Ok, Err, refl, sym, ap, ◌∙◌, subst}
+use Rattle.std.proofs.Common.{arith}
 use Rattle.std.specs.List.{list_all}
 use Rattle.std.proofs.lemmas.Bool.{and_parts}
 use Rattle.std.proofs.lemmas.List.{length-append}
@@ -20,7 +22,8 @@ use Rattle.cm_types.specs.declared.scope.Scope.{Scope}
 use Rattle.cm_types.specs.declared.scope.Draft.{Draft}
 use Rattle.cm_types.specs.Told.{Told, Broken, Answers, rule, first}
 use Rattle.cm_types.specs.Declarations.{decl_told, decls_told, no_names, no_tables, tables_of, faults_of}
-use Rattle.cm_types.specs.LeastValues.{declared_meets, meets_least, with_state, with_states, state_places, least_told, or_least, all_faults_of, IsWalked, IsModelOf, LeastMeet}
+use Rattle.cm_types.specs.LeastValues.{declared_meets, meets_least, with_state, with_states, state_places, least_told}
+use Rattle.cm_types.specs.LeastValues.{or_least, all_faults_of, IsWalked, IsModelOf, LeastMeet}
 use Rattle.cm_types.specs.Rules as rules
 use Rattle.cm_types.proofs.Items.{no_more, holds}
 

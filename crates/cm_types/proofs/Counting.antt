@@ -1,5 +1,6 @@
 -- Sums that are counted up to the greatest of 64 bits.
-use Rattle.std.proofs.Common.{◌≡◌, ℕ, ◌+◌, ◌-◌, ◌^◌, ◌≤◌, ◌<◌, min, List, [], ◌∷◌, sum, leb, Bool, true, false, refl, arith}
+use Rattle.std.proofs.Common.{◌≡◌, ℕ, ◌+◌, ◌-◌, ◌^◌, ◌≤◌, ◌<◌, min, List, [], ◌∷◌, sum, leb, Bool, true, false, refl}
+use Rattle.std.proofs.Common.{arith}
 use Rattle.cm_types.specs.Counts.{counted}
 
 pub counted_more : (a b c : ℕ) → counted (counted (a + b) + c) ≡ counted (a + (b + c))

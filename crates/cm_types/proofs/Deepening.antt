@@ -1,8 +1,10 @@
 -- Flat types beside the types of tables that they become.
-use Rattle.std.proofs.Common.{◌≡◌, ℕ, zero, suc, ◌+◌, ◌==◌, ◌&&◌, ◌||◌, inl, inr, nat_lt, Bool, true, false, List, refl, sym, ap, ◌∙◌, arith, eq-eqb}
+use Rattle.std.proofs.Common.{◌≡◌, ℕ, zero, suc, ◌+◌, ◌==◌, ◌&&◌, ◌||◌, inl, inr, nat_lt, Bool, true, false, List, refl}
+use Rattle.std.proofs.Common.{sym, ap, ◌∙◌, arith, eq-eqb}
 use Rattle.std.proofs.lemmas.Bool.{lt-ltb}
 use Rattle.std.proofs.lemmas.Bool.Decides.{eqb_tells}
-use Rattle.cm_model.specs.Types.{same_step, same_ty, width_step, width_in, integers_step, integers_in, option_step, holds_option_in, ty_step, is_type_before}
+use Rattle.cm_model.specs.Types.{same_step, same_ty, width_step, width_in, integers_step, integers_in, option_step}
+use Rattle.cm_model.specs.Types.{holds_option_in, ty_step, is_type_before}
 use Rattle.cm_model.specs.Kinds.{is_integer_ty}
 use Rattle.cm_model.specs.Tables.{Tables}
 use Rattle.cm_model.specs.declared.ty.Ty.{Ty, out-Ty}
@@ -13,7 +15,8 @@ use Rattle.cm_model.specs.declared.ty.Ty.TheFolds.{fold-Ty, fold-roll-Ty}
 use Rattle.cm_types.specs.declared.flat.Base.{Base}
 use Rattle.cm_types.specs.declared.flat.Base.TheVariants.{Sort, Int, Enum, Record}
 use Rattle.cm_types.specs.declared.flat.Flat.{Flat}
-use Rattle.cm_types.specs.Flats.{same_base, same_flat, is_int_base, is_integer_flat, innermost, around, ty_of_flat, option_flat}
+use Rattle.cm_types.specs.Flats.{same_base, same_flat, is_int_base, is_integer_flat, innermost, around, ty_of_flat}
+use Rattle.cm_types.specs.Flats.{option_flat}
 
 -- the outermost layer of a base's type
 abbrev pub layer_of : {X : Type 0} → Base → Ty-F X

@@ -1,5 +1,6 @@
 -- A tree in which no rule fails declares each name once.
-use Rattle.std.proofs.Common.{◌≡◌, ℕ, ◌+◌, inl, inr, not, Bool, true, false, List, [], ◌∷◌, ◌++◌, map, length, drop, refl, sym, ap, ◌∙◌, subst, append_assoc}
+use Rattle.std.proofs.Common.{◌≡◌, ℕ, ◌+◌, inl, inr, not, Bool, true, false, List, [], ◌∷◌, ◌++◌, map, length, drop}
+use Rattle.std.proofs.Common.{refl, sym, ap, ◌∙◌, subst, append_assoc}
 use Rattle.std.specs.List.{list_all, flat_map}
 use Rattle.std.proofs.lemmas.Bool.{and_parts, and_from}
 use Rattle.std.proofs.lemmas.List.{append-nil}
@@ -21,7 +22,8 @@ use Rattle.cm_types.specs.declared.scope.Draft.{Draft}
 use Rattle.cm_types.specs.Told.{rule}
 use Rattle.cm_types.specs.Names.{Names, is_taken, more}
 use Rattle.cm_types.specs.Rules as rules
-use Rattle.cm_types.specs.Declarations.{new_name, next_named, variant_told, variants_told, declare, decl_told, decls_told, tables_in}
+use Rattle.cm_types.specs.Declarations.{new_name, next_named, variant_told, variants_told, declare, decl_told}
+use Rattle.cm_types.specs.Declarations.{decls_told, tables_in}
 use Rattle.cm_types.proofs.Items.{Each, no_more, holds, not_true, map_more}
 use Rattle.cm_types.proofs.DistinctLists.{among_more, distinct_more, taken_more, false_if}
 use Rattle.cm_types.proofs.TypedRoutines.{names_in}

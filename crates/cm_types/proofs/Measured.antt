@@ -1,5 +1,6 @@
 -- What tables say of a flat type whose measures are right.
-use Rattle.std.proofs.Common.{◌≡◌, ℕ, suc, ◌+◌, ◌-◌, ◌<◌, ◌≤◌, ◌&&◌, ◌||◌, nat_lt, leb, true, [], length, Some, refl, sym, ap, ◌∙◌, arith}
+use Rattle.std.proofs.Common.{◌≡◌, ℕ, suc, ◌+◌, ◌-◌, ◌<◌, ◌≤◌, ◌&&◌, ◌||◌, nat_lt, leb, true, [], length, Some, refl}
+use Rattle.std.proofs.Common.{sym, ap, ◌∙◌, arith}
 use Rattle.std.proofs.lemmas.Bool.{and_parts, and_from, ltb-true, leb-true, le-leb}
 use Rattle.std.proofs.lemmas.List.{append-nil}
 use Rattle.cm_model.specs.Tables.{Tables}
@@ -9,8 +10,10 @@ use Rattle.cm_model.specs.Types.{is_type_before, is_type_in_use, widths, record_
 use Rattle.cm_model.specs.Kinds.{payload_of, payload_in}
 use Rattle.cm_model.proofs.Larger.{IsLarger, still_before}
 use Rattle.cm_types.specs.declared.flat.Flat.{Flat}
-use Rattle.cm_types.specs.Flats.{width_of, holds_option, is_small, innermost, around, ty_of_flat, option_flat, enum_flat, int_flat, sort_flat}
-use Rattle.cm_types.proofs.Deepening.{before_around, width_around, integers_around, options_around, out_option, fold_base}
+use Rattle.cm_types.specs.Flats.{width_of, holds_option, is_small, innermost, around, ty_of_flat, option_flat}
+use Rattle.cm_types.specs.Flats.{enum_flat, int_flat, sort_flat}
+use Rattle.cm_types.proofs.Deepening.{before_around, width_around, integers_around, options_around, out_option}
+use Rattle.cm_types.proofs.Deepening.{fold_base}
 
 -- a declared type, whose records are among the first n, with the measures that tables give it, and small enough
 pub record IsFlat (t : Tables) (n : ℕ) (f : Flat) : Type 0 where

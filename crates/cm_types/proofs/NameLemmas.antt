@@ -1,5 +1,6 @@
 -- A name among names.
-use Rattle.std.proofs.Common.{String, Global, string_bytes, ◌≡◌, ◌||◌, ℕ, Bool, cond, List, [], ◌∷◌, ◌++◌, false, is_some, true, if◌then◌else◌, map, Option, Some, None, refl, sym, ap, ◌∙◌}
+use Rattle.std.proofs.Common.{String, Global, string_bytes, ◌≡◌, ◌||◌, ℕ, Bool, cond, List, [], ◌∷◌, ◌++◌, false}
+use Rattle.std.proofs.Common.{is_some, true, if◌then◌else◌, map, Option, Some, None, refl, sym, ap, ◌∙◌}
 use Rattle.std.specs.List.{list_any}
 use Rattle.std.specs.Str.{bytes_eq}
 use Rattle.std.specs.Map.{lookup}

@@ -1,5 +1,6 @@
 -- The names among the tokens of a text are names.
-use Rattle.std.proofs.Common.{◌≡◌, ℕ, zero, suc, ◌+◌, ◌==◌, ◌&&◌, ◌||◌, leb, nat_le, nat_lt, nat_eq, not, Bool, true, false, cond, List, [], ◌∷◌, map, drop, length, refl, sym, ap, ◌∙◌, if◌then◌else◌}
+use Rattle.std.proofs.Common.{◌≡◌, ℕ, zero, suc, ◌+◌, ◌==◌, ◌&&◌, ◌||◌, leb, nat_le, nat_lt, nat_eq, not, Bool, true}
+use Rattle.std.proofs.Common.{false, cond, List, [], ◌∷◌, map, drop, length, refl, sym, ap, ◌∙◌, if◌then◌else◌}
 use Rattle.std.specs.List.{list_all, take_while, starts_with}
 use Rattle.std.specs.Str.{bytes_eq}
 use Rattle.std.specs.Str.Parse.{digits_value}

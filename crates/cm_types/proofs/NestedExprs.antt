@@ -14,9 +14,13 @@ use Rattle.cm_syntax.specs.declared.tree.Sum.{Sum}
 use Rattle.cm_syntax.specs.declared.tree.Unary.{Unary}
 use Rattle.cm_syntax.specs.declared.tree.Post.{Post}
 use Rattle.cm_syntax.specs.declared.tree.Set.{Set}
-use Rattle.cm_syntax.specs.declared.tree.Cmp.TheViews.{roll-Cmp, roll-Expr, roll-Primary, roll-Sum, roll-Unary, roll-Post, roll-Set}
+use Rattle.cm_syntax.specs.declared.tree.Cmp.TheViews.{roll-Cmp, roll-Expr, roll-Primary, roll-Sum, roll-Unary}
+use Rattle.cm_syntax.specs.declared.tree.Cmp.TheViews.{roll-Post, roll-Set}
 use Rattle.cm_syntax.specs.declared.tree.Cmp.TheOpen as layer
-use Rattle.cm_syntax.specs.declared.tree.Cmp.TheFolds.{ind-Expr, fold-roll-Cmp, fold-roll-Expr, fold-roll-Primary, fold-roll-Sum, fold-roll-Unary, fold-roll-Post, fold-roll-Set, map-Cmp, map-Expr, map-Primary, map-Sum, map-Unary, map-Post, map-Set}
+use Rattle.cm_syntax.specs.declared.tree.Cmp.TheFolds.{ind-Expr, fold-roll-Cmp, fold-roll-Expr, fold-roll-Primary}
+use Rattle.cm_syntax.specs.declared.tree.Cmp.TheFolds.{fold-roll-Sum, fold-roll-Unary, fold-roll-Post, fold-roll-Set}
+use Rattle.cm_syntax.specs.declared.tree.Cmp.TheFolds.{map-Cmp, map-Expr, map-Primary, map-Sum, map-Unary, map-Post}
+use Rattle.cm_syntax.specs.declared.tree.Cmp.TheFolds.{map-Set}
 use Rattle.cm_types.specs.declared.scope.Scope.{Scope}
 use Rattle.cm_types.specs.Names.{Names, look, it_name}
 use Rattle.cm_types.specs.Flats.{ty_of}
@@ -25,8 +29,10 @@ use Rattle.cm_types.specs.Expressions as told
 use Rattle.cm_types.specs.Expressions.{Meaning, SetMeaning, named, map_told, no_path, path_told, number_in, op_of}
 use Rattle.cm_types.proofs.Items.{Each, each_as}
 use Rattle.cm_types.proofs.ModelForms as forms
-use Rattle.cm_types.proofs.ShiftsTold.{none_in_value, none_in_it, none_low, same_low, both_low, IsLow, operands_are_low, apply_low, path_low, with_low}
-use Rattle.cm_types.proofs.Passing.{Fine, opened, closed, name_passed, num_passes, relation_passed, names_passed, type_passes, held, after_gives, listed_gives}
+use Rattle.cm_types.proofs.ShiftsTold.{none_in_value, none_in_it, none_low, same_low, both_low, IsLow, operands_are_low}
+use Rattle.cm_types.proofs.ShiftsTold.{apply_low, path_low, with_low}
+use Rattle.cm_types.proofs.Passing.{Fine, opened, closed, name_passed, num_passes, relation_passed, names_passed}
+use Rattle.cm_types.proofs.Passing.{type_passes, held, after_gives, listed_gives}
 
 abbrev value_of_set : SetField-F ℕ ℕ → ℕ
 value_of_set x = x.value

@@ -1,5 +1,6 @@
 -- A block of a text has at most 65 shifts one inside another.
-use Rattle.std.proofs.Common.{◌≡◌, ℕ, ◌+◌, ◌≤◌, max, Bool, false, List, [], ◌∷◌, ◌++◌, map, length, Some, None, sym, subst, arith}
+use Rattle.std.proofs.Common.{◌≡◌, ℕ, ◌+◌, ◌≤◌, max, Bool, false, List, [], ◌∷◌, ◌++◌, map, length, Some, None, sym}
+use Rattle.std.proofs.Common.{subst, arith}
 use Rattle.cm_model.specs.Weights.{greatest, shifts_of, stmt_shifts_step}
 use Rattle.cm_model.specs.declared.body.Stmt.{Stmt as Step}
 use Rattle.cm_model.specs.declared.body.Stmt.TheFolds.{fold-Stmt as fold-Step}
@@ -19,7 +20,8 @@ use Rattle.cm_types.specs.declared.names.Entry.TheVariants as entry
 use Rattle.cm_types.specs.Names.{Names, more}
 use Rattle.cm_types.specs.Flats.{payload_of}
 use Rattle.cm_types.specs.Expressions.{expr_told, map_told}
-use Rattle.cm_types.specs.Statements.{StmtMeaning, BlockMeaning, cell_told, block_told, stmt_step, block_step, stmt_told, of_block}
+use Rattle.cm_types.specs.Statements.{StmtMeaning, BlockMeaning, cell_told, block_told, stmt_step, block_step}
+use Rattle.cm_types.specs.Statements.{stmt_told, of_block}
 use Rattle.cm_types.proofs.Items.{Each, map_more}
 use Rattle.cm_types.proofs.ModelForms as forms
 use Rattle.cm_types.proofs.ShiftsTold.{IsLow, greatest_more}

@@ -1,5 +1,6 @@
 -- An invariant in which no rule fails holds no state's name, no call of a function and no conversion.
-use Rattle.std.proofs.Common.{◌≡◌, ℕ, ℤ, pos, neg_ℤ, Bool, true, false, cond, List, [], ◌∷◌, ◌++◌, map, length, Option, Some, None, refl, sym, ap, ◌∙◌, subst}
+use Rattle.std.proofs.Common.{◌≡◌, ℕ, ℤ, pos, neg_ℤ, Bool, true, false, cond, List, [], ◌∷◌, ◌++◌, map, length, Option}
+use Rattle.std.proofs.Common.{Some, None, refl, sym, ap, ◌∙◌, subst}
 use Rattle.std.specs.List.{list_all}
 use Rattle.std.specs.Str.{bytes_eq}
 use Rattle.std.proofs.lemmas.Bool.{and_from}
@@ -22,10 +23,15 @@ use Rattle.cm_types.specs.Names.{Names, look, is_taken, it_name, in_invariant, i
 use Rattle.cm_types.specs.Rules as rules
 use Rattle.cm_types.specs.Types.{type_told}
 use Rattle.cm_types.specs.Flats.{wanted, ty_of}
-use Rattle.cm_types.specs.Expressions.{Meaning, named, number_in, it_told, value_named, map_named, map_told, as_condition, operands_told, type_at, args_told, counted_told, loose_told, applied_told, apply_told, at_path, expr_at, no_path, path_told, set_field, set_value, next_set_told, sets_told, no_sets, with_told, shift_told, op_of, prim_step, post_step, unary_step, sum_step, cmp_step, expr_step, expr_told}
+use Rattle.cm_types.specs.Expressions.{Meaning, named, number_in, it_told, value_named, map_named, map_told}
+use Rattle.cm_types.specs.Expressions.{as_condition, operands_told, type_at, args_told, counted_told, loose_told}
+use Rattle.cm_types.specs.Expressions.{applied_told, apply_told, at_path, expr_at, no_path, path_told, set_field}
+use Rattle.cm_types.specs.Expressions.{set_value, next_set_told, sets_told, no_sets, with_told, shift_told, op_of}
+use Rattle.cm_types.specs.Expressions.{prim_step, post_step, unary_step, sum_step, cmp_step, expr_step, expr_told}
 use Rattle.cm_types.proofs.Items.{no_more, all_more, map_more}
 use Rattle.cm_types.proofs.ModelForms as forms
-use Rattle.cm_types.proofs.ExprRules.{Held, HeldSet, bare_cmp, bare_expr, bare_prim, bare_sum, bare_unary, bare_post, expr_keeps}
+use Rattle.cm_types.proofs.ExprRules.{Held, HeldSet, bare_cmp, bare_expr, bare_prim, bare_sum, bare_unary, bare_post}
+use Rattle.cm_types.proofs.ExprRules.{expr_keeps}
 
 -- the locals of an invariant
 abbrev pub its : Option Flat → Names

@@ -1,15 +1,18 @@
 -- A plain expression has one kind, whichever functions stand before it.
-use Rattle.std.proofs.Common.{◌≡◌, ℕ, ◌&&◌, ltb, leb, Bool, true, List, [], ◌∷◌, map, length, Option, None, refl, sym, ap, ◌∙◌, subst, if◌then◌else◌}
+use Rattle.std.proofs.Common.{◌≡◌, ℕ, ◌&&◌, ltb, leb, Bool, true, List, [], ◌∷◌, map, length, Option, None, refl, sym}
+use Rattle.std.proofs.Common.{ap, ◌∙◌, subst, if◌then◌else◌}
 use Rattle.std.specs.Prelude.{option_map}
 use Rattle.std.specs.List.{list_all}
 use Rattle.std.proofs.lemmas.Bool.{and_parts}
 use Rattle.cm_model.specs.Tables.{Tables}
 use Rattle.cm_model.specs.Limits.{is_number}
 use Rattle.cm_model.specs.Plain.{plain_step, is_plain}
-use Rattle.cm_model.specs.Kinds.{Kind, Number, Of, Set, scope, given, if_so, is_bool, is_integer, bool_ty, type_of, type_at, are_of, are_sets, are_comparable, option_kind, kind_step, set_step, kind_of}
+use Rattle.cm_model.specs.Kinds.{Kind, Number, Of, Set, scope, given, if_so, is_bool, is_integer, bool_ty, type_of}
+use Rattle.cm_model.specs.Kinds.{type_at, are_of, are_sets, are_comparable, option_kind, kind_step, set_step, kind_of}
 use Rattle.cm_model.specs.declared.ty.Ty.{Ty}
 use Rattle.cm_model.specs.declared.ty.Ty.TheVariants as ty
-use Rattle.cm_model.specs.declared.body.SetField.{SetField, fold-SetField, out-SetField, roll-out-SetField, fold-roll-SetField}
+use Rattle.cm_model.specs.declared.body.SetField.{SetField, fold-SetField, out-SetField, roll-out-SetField}
+use Rattle.cm_model.specs.declared.body.SetField.{fold-roll-SetField}
 use Rattle.cm_model.specs.declared.body.Expr.{Expr}
 use Rattle.cm_model.specs.declared.body.Expr.TheViews.{roll-Expr}
 use Rattle.cm_model.specs.declared.body.Expr.TheOpen.{Expr-F}

@@ -1,11 +1,13 @@
 -- A record in which no rule fails has the measures that tables give it.
-use Rattle.std.proofs.Common.{◌≡◌, ℕ, suc, ◌+◌, ◌<◌, ◌≤◌, ◌&&◌, ◌||◌, nat_lt, Bool, true, false, List, [], ◌∷◌, ◌++◌, map, length, sum, slice_get, Option, Some, refl, sym, ap, ◌∙◌, arith, append_assoc}
+use Rattle.std.proofs.Common.{◌≡◌, ℕ, suc, ◌+◌, ◌<◌, ◌≤◌, ◌&&◌, ◌||◌, nat_lt, Bool, true, false, List, [], ◌∷◌, ◌++◌}
+use Rattle.std.proofs.Common.{map, length, sum, slice_get, Option, Some, refl, sym, ap, ◌∙◌, arith, append_assoc}
 use Rattle.std.specs.List.{list_all}
 use Rattle.std.proofs.lemmas.Bool.{ltb-true, lt-ltb, and_from}
 use Rattle.std.proofs.lemmas.List.{length-append}
 use Rattle.cm_model.specs.Tables.{Tables}
 use Rattle.cm_model.specs.Types as types
-use Rattle.cm_model.specs.Types.{or_else, record_values, is_type_before, is_type_in_use, width_in, widths, integers_in, record_integers, holds_option_in, record_options, any_of}
+use Rattle.cm_model.specs.Types.{or_else, record_values, is_type_before, is_type_in_use, width_in, widths, integers_in}
+use Rattle.cm_model.specs.Types.{record_integers, holds_option_in, record_options, any_of}
 use Rattle.cm_model.specs.declared.ty.RecDecl.{RecDecl}
 use Rattle.cm_model.specs.declared.ty.Part.{Part}
 use Rattle.cm_model.proofs.Larger.{count_values, values_kept}
@@ -13,7 +15,8 @@ use Rattle.cm_types.specs.declared.flat.Base.{Base}
 use Rattle.cm_types.specs.declared.flat.Base.TheVariants.{Sort, Int, Enum, Record}
 use Rattle.cm_types.specs.declared.flat.Flat.{Flat}
 use Rattle.cm_types.specs.Flats as flats
-use Rattle.cm_types.specs.Flats.{is_small, widths_of, integers_of, any_option, option_in, record_flat, innermost, ty_of_flat}
+use Rattle.cm_types.specs.Flats.{is_small, widths_of, integers_of, any_option, option_in, record_flat, innermost}
+use Rattle.cm_types.specs.Flats.{ty_of_flat}
 use Rattle.cm_types.proofs.Items.{GoesOn, stands_behind}
 use Rattle.cm_types.proofs.Deepening.{fold_base, width_around, integers_around, options_around}
 use Rattle.cm_types.proofs.Measured.{IsFlat, is_before, in_use}

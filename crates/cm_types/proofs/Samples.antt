@@ -32,8 +32,11 @@ use Rattle.cm_types.specs.Rules as rules
 use Rattle.cm_types.specs.Flats.{enum_flat, bool_flat}
 use Rattle.cm_types.specs.declared.names.Entry.TheVariants as entry
 use Rattle.cm_types.specs.Declarations.{told, faults_of, tables_of}
-use Rattle.cm_types.proofs.Alternatives.{type_Bool, type_Named, type_Optional, prim_Number, prim_It, prim_Name, prim_Apply, post_is, unary_Bare, sum_Term, cmp_Side, cmp_Compared, expr_Single, stmt_If, stmt_Return, stmt_Assign, block_is}
-use Rattle.cm_types.proofs.WeightForms.{weight_Num, weight_Tag, weight_Local, weight_Compare, weight_Return, weight_If, weight_Set, weight_Apply, weight_Cell}
+use Rattle.cm_types.proofs.Alternatives.{type_Bool, type_Named, type_Optional, prim_Number, prim_It, prim_Name}
+use Rattle.cm_types.proofs.Alternatives.{prim_Apply, post_is, unary_Bare, sum_Term, cmp_Side, cmp_Compared, expr_Single}
+use Rattle.cm_types.proofs.Alternatives.{stmt_If, stmt_Return, stmt_Assign, block_is}
+use Rattle.cm_types.proofs.WeightForms.{weight_Num, weight_Tag, weight_Local, weight_Compare, weight_Return, weight_If}
+use Rattle.cm_types.proofs.WeightForms.{weight_Set, weight_Apply, weight_Cell}
 
 abbrev at : ℕ → Place
 at c = record { line = 1; col = c }

@@ -1,5 +1,6 @@
 -- How many shifts stand one inside another in what an expression is told to be, from those in its parts.
-use Rattle.std.proofs.Common.{◌≡◌, ℕ, ◌+◌, ◌≤◌, max, pos, Bool, true, false, List, [], ◌∷◌, ◌++◌, map, Option, Some, None, refl, sym, subst, arith}
+use Rattle.std.proofs.Common.{◌≡◌, ℕ, ◌+◌, ◌≤◌, max, pos, Bool, true, false, List, [], ◌∷◌, ◌++◌, map, Option, Some}
+use Rattle.std.proofs.Common.{None, refl, sym, subst, arith}
 use Rattle.cm_model.specs.Weights.{greatest, shifts_step, shifts_of}
 use Rattle.cm_model.specs.declared.place.Place.{Place}
 use Rattle.cm_model.specs.declared.body.Expr.{Expr as Made}
@@ -15,7 +16,9 @@ use Rattle.cm_types.specs.declared.told.Sets.{Sets}
 use Rattle.cm_types.specs.Told.{Broken}
 use Rattle.cm_types.specs.Names.{Names, in_invariant}
 use Rattle.cm_types.specs.Rules as rules
-use Rattle.cm_types.specs.Expressions.{Meaning, SetMeaning, it_told, value_named, operands_told, args_told, counted_told, loose_told, into_told, applied_told, apply_told, expr_at, set_field, next_set_told, sets_told, no_sets, with_told}
+use Rattle.cm_types.specs.Expressions.{Meaning, SetMeaning, it_told, value_named, operands_told, args_told}
+use Rattle.cm_types.specs.Expressions.{counted_told, loose_told, into_told, applied_told, apply_told, expr_at}
+use Rattle.cm_types.specs.Expressions.{set_field, next_set_told, sets_told, no_sets, with_told}
 use Rattle.cm_types.proofs.Items.{Each, map_more}
 use Rattle.cm_types.proofs.ModelForms as forms
 

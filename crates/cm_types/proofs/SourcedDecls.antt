@@ -9,7 +9,8 @@ use Rattle.cm_tokens.specs.declared.token.Token.{Token}
 use Rattle.cm_tokens.specs.declared.token.Token.TheVariants as token
 use Rattle.cm_syntax.specs.Form.{each_after}
 use Rattle.cm_syntax.specs.Spelling as spelled
-use Rattle.cm_syntax.specs.Spelling.{names_after, listed, num_form, type_form, part_form, expr_form, block_form, decl_form, internal_form}
+use Rattle.cm_syntax.specs.Spelling.{names_after, listed, num_form, type_form, part_form, expr_form, block_form}
+use Rattle.cm_syntax.specs.Spelling.{decl_form, internal_form}
 use Rattle.cm_syntax.specs.declared.tree.Part.{Part}
 use Rattle.cm_syntax.specs.declared.tree.Expr.{Expr}
 use Rattle.cm_syntax.specs.declared.tree.Block.{Block}
@@ -19,7 +20,8 @@ use Rattle.cm_syntax.specs.declared.tree.Tree.{Tree}
 use Rattle.cm_types.specs.Expressions.{expr_told}
 use Rattle.cm_types.specs.Statements.{of_block}
 use Rattle.cm_types.proofs.Items.{Each}
-use Rattle.cm_types.proofs.Passing.{Fine, opened, closed, name_passed, num_passes, names_passed, type_passes, part_gives, Gives, after_gives, listed_gives}
+use Rattle.cm_types.proofs.Passing.{Fine, opened, closed, name_passed, num_passes, names_passed, type_passes}
+use Rattle.cm_types.proofs.Passing.{part_gives, Gives, after_gives, listed_gives}
 use Rattle.cm_types.proofs.NestedExprs.{expr_nests}
 use Rattle.cm_types.proofs.NestedStmts.{few_in, block_nests}
 use Rattle.cm_types.proofs.TypedRoutines.{names_in}

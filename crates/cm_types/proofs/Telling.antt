@@ -1,5 +1,6 @@
 -- What is told of one thing after another.
-use Rattle.std.proofs.Common.{◌≡◌, ℕ, ◌<◌, leb, Bool, true, false, List, [], Option, Some, None, Result, Ok, Err, if◌then◌else◌, refl, sym, ap, subst, ◌∙◌}
+use Rattle.std.proofs.Common.{◌≡◌, ℕ, ◌<◌, leb, Bool, true, false, List, [], Option, Some, None, Result, Ok, Err}
+use Rattle.std.proofs.Common.{if◌then◌else◌, refl, sym, ap, subst, ◌∙◌}
 use Rattle.cm_model.specs.declared.place.Place.{Place}
 use Rattle.cm_syntax.specs.declared.tree.Part.{Part}
 use Rattle.cm_syntax.specs.declared.tree.«Type».{«Type» as TypeTree}
@@ -13,7 +14,8 @@ use Rattle.cm_types.specs.declared.told.Params.{Params}
 use Rattle.cm_types.specs.Told.{Told, Broken, Answers, given, rule, fine, first}
 use Rattle.cm_types.specs.Names.{Names}
 use Rattle.cm_types.specs.Types.{type_told}
-use Rattle.cm_types.specs.Declarations.{all_params_told, body_told, routine_told, routine, reply_in, no_params, weight_of}
+use Rattle.cm_types.specs.Declarations.{all_params_told, body_told, routine_told, routine, reply_in, no_params}
+use Rattle.cm_types.specs.Declarations.{weight_of}
 use Rattle.cm_types.specs.Counts.{counted}
 use Rattle.cm_types.specs.Rules as rules
 use Rattle.cm_types.proofs.Counting.{counted_over}

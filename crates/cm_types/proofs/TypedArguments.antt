@@ -1,5 +1,6 @@
 -- Operands and arguments in which no rule fails.
-use Rattle.std.proofs.Common.{◌≡◌, ℕ, suc, ◌==◌, ltb, Bool, true, false, List, [], ◌∷◌, ◌++◌, map, length, slice_get, Option, Some, None, refl, sym, ap, ◌∙◌, subst, arith, if◌then◌else◌}
+use Rattle.std.proofs.Common.{◌≡◌, ℕ, suc, ◌==◌, ltb, Bool, true, false, List, [], ◌∷◌, ◌++◌, map, length, slice_get}
+use Rattle.std.proofs.Common.{Option, Some, None, refl, sym, ap, ◌∙◌, subst, arith, if◌then◌else◌}
 use Rattle.std.specs.List.{list_all}
 use Rattle.std.proofs.lemmas.Bool.{eqb-true, and_from}
 use Rattle.std.proofs.lemmas.List.{length-append, append_assoc, append-nil}
@@ -21,7 +22,8 @@ use Rattle.cm_types.specs.Told.{Broken, rule, fails}
 use Rattle.cm_types.specs.Names.{Names, in_invariant}
 use Rattle.cm_types.specs.Rules as rules
 use Rattle.cm_types.specs.Flats.{is_bool, is_integer, wanted, kind_of, int_flat}
-use Rattle.cm_types.specs.Expressions.{Meaning, typed, as_condition, operands_told, type_at, args_told, counted_told, loose_told, into_told, make_told, call_told, applied_told, apply_told}
+use Rattle.cm_types.specs.Expressions.{Meaning, typed, as_condition, operands_told, type_at, args_told, counted_told}
+use Rattle.cm_types.specs.Expressions.{loose_told, into_told, make_told, call_told, applied_told, apply_told}
 use Rattle.cm_types.proofs.Items.{no_more, holds, length_map}
 use Rattle.cm_types.proofs.ModelForms.{of_Make, of_Into, of_Apply}
 use Rattle.cm_types.proofs.Measured.{int_fits}

@@ -1,5 +1,6 @@
 -- A declaration in which no rule fails becomes a well typed one.
-use Rattle.std.proofs.Common.{◌≡◌, ℕ, suc, ◌+◌, ◌<◌, ◌≤◌, ◌&&◌, inr, ltb, leb, not, Bool, true, false, List, [], ◌∷◌, ◌++◌, map, length, slice_get, Option, Some, refl, sym, ap, ◌∙◌, arith}
+use Rattle.std.proofs.Common.{◌≡◌, ℕ, suc, ◌+◌, ◌<◌, ◌≤◌, ◌&&◌, inr, ltb, leb, not, Bool, true, false, List, [], ◌∷◌}
+use Rattle.std.proofs.Common.{◌++◌, map, length, slice_get, Option, Some, refl, sym, ap, ◌∙◌, arith}
 use Rattle.std.specs.List.{list_all}
 use Rattle.std.proofs.lemmas.Bool.{and_parts, and_from, le-leb, lt-ltb, ltb-true}
 use Rattle.std.proofs.lemmas.List.{length-append}
@@ -33,7 +34,8 @@ use Rattle.cm_types.specs.Rules as rules
 use Rattle.cm_types.specs.Flats.{is_bool, is_key, ty_of, ty_of_flat}
 use Rattle.cm_types.specs.Types.{type_told}
 use Rattle.cm_types.specs.Expressions.{as_condition, expr_told}
-use Rattle.cm_types.specs.Declarations.{new_name, next_named, declare, variants_told, key_of, map_types_told, invariant_told, inside, routine_told}
+use Rattle.cm_types.specs.Declarations.{new_name, next_named, declare, variants_told, key_of, map_types_told}
+use Rattle.cm_types.specs.Declarations.{invariant_told, inside, routine_told}
 use Rattle.cm_types.proofs.Items.{each_more, GoesOn, no_more, holds, length_map}
 use Rattle.cm_types.proofs.DistinctLists.{taken_more}
 use Rattle.cm_types.proofs.Measured.{IsFlat, in_use, option_is}

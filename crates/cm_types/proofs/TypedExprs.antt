@@ -1,5 +1,6 @@
 -- An expression in which no rule fails has the kind that tables give it.
-use Rattle.std.proofs.Common.{◌≡◌, ℕ, ◌≤◌, ◌<◌, ◌&&◌, ◌||◌, ltb, leb, ℤ, pos, neg_ℤ, Bool, true, false, List, [], ◌∷◌, map, length, slice_get, Option, Some, None, refl, sym, ap, ◌∙◌, subst, arith}
+use Rattle.std.proofs.Common.{◌≡◌, ℕ, ◌≤◌, ◌<◌, ◌&&◌, ◌||◌, ltb, leb, ℤ, pos, neg_ℤ, Bool, true, false, List, [], ◌∷◌}
+use Rattle.std.proofs.Common.{map, length, slice_get, Option, Some, None, refl, sym, ap, ◌∙◌, subst, arith}
 use Rattle.std.proofs.lemmas.Bool.{and_parts, and_from, le-leb, lt-ltb}
 use Rattle.std.specs.Prelude.{option_map}
 use Rattle.std.proofs.lemmas.Option.{slice_get_within}
@@ -32,18 +33,23 @@ use Rattle.cm_types.specs.Told.{rule}
 use Rattle.cm_types.specs.Names.{Names, look, it_name}
 use Rattle.cm_types.specs.Rules as rules
 use Rattle.cm_types.specs.Types.{type_told}
-use Rattle.cm_types.specs.Flats.{same_flat, enum_flat, kind_of, value_of, is_value, is_bool, is_integer, is_integer_flat, are_equal_kinds, wanted, option_flat, option_of, ty_of, ty_of_flat}
-use Rattle.cm_types.specs.Expressions.{named, number_in, truth, it_told, value_named, map_named, map_told, as_condition, operands_told, at_path, no_path, path_told, shift_told, op_of, compared, prim_step, post_step, unary_step, sum_step, cmp_step, expr_step, expr_told}
+use Rattle.cm_types.specs.Flats.{same_flat, enum_flat, kind_of, value_of, is_value, is_bool, is_integer}
+use Rattle.cm_types.specs.Flats.{is_integer_flat, are_equal_kinds, wanted, option_flat, option_of, ty_of, ty_of_flat}
+use Rattle.cm_types.specs.Expressions.{named, number_in, truth, it_told, value_named, map_named, map_told, as_condition}
+use Rattle.cm_types.specs.Expressions.{operands_told, at_path, no_path, path_told, shift_told, op_of, compared}
+use Rattle.cm_types.specs.Expressions.{prim_step, post_step, unary_step, sum_step, cmp_step, expr_step, expr_told}
 use Rattle.cm_types.proofs.Items.{no_more, holds, length_map}
 use Rattle.cm_types.proofs.ModelForms as forms
 use Rattle.cm_types.proofs.Deepening.{same_deep, integer_deep}
 use Rattle.cm_types.proofs.Measured.{IsFlat, enum_fits}
 use Rattle.cm_types.proofs.Standing.{types_in, Fits, FitsEntry, ScopeFits, looked, named_fits}
-use Rattle.cm_types.proofs.TypedParts.{BoolFirst, kind_in, kind_at, IsTyped, value_is, integer_is, bool_is, wanted_is, option_is, bool_typed, type_sound}
+use Rattle.cm_types.proofs.TypedParts.{BoolFirst, kind_in, kind_at, IsTyped, value_is, integer_is, bool_is, wanted_is}
+use Rattle.cm_types.proofs.TypedParts.{option_is, bool_typed, type_sound}
 use Rattle.cm_types.proofs.TypedArguments.{Sound, bare, operands_sound, apply_sound}
 use Rattle.cm_types.proofs.TypedFields.{fields_typed}
 use Rattle.cm_types.proofs.TypedSets.{with_typed}
-use Rattle.cm_types.proofs.ExprRules.{Held, HeldSet, bare_cmp, bare_expr, bare_prim, bare_sum, bare_unary, bare_post, expr_keeps}
+use Rattle.cm_types.proofs.ExprRules.{Held, HeldSet, bare_cmp, bare_expr, bare_prim, bare_sum, bare_unary, bare_post}
+use Rattle.cm_types.proofs.ExprRules.{expr_keeps}
 
 -- Sides of a comparison
 

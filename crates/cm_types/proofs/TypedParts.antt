@@ -1,5 +1,6 @@
 -- Kinds of a checked expression's parts, beside those that tables give it.
-use Rattle.std.proofs.Common.{◌≡◌, ℕ, ◌+◌, ◌≤◌, ◌==◌, ◌&&◌, true, [], length, slice_get, Option, Some, None, refl, sym, ap, ◌∙◌, subst}
+use Rattle.std.proofs.Common.{◌≡◌, ℕ, ◌+◌, ◌≤◌, ◌==◌, ◌&&◌, true, [], length, slice_get, Option, Some, None, refl, sym}
+use Rattle.std.proofs.Common.{ap, ◌∙◌, subst}
 use Rattle.std.proofs.lemmas.Bool.{lt-ltb}
 use Rattle.std.proofs.lemmas.Option.{slice_get_within}
 use Rattle.cm_model.specs.Tables.{Tables}
@@ -21,7 +22,9 @@ use Rattle.cm_types.specs.declared.told.Typed.{Typed}
 use Rattle.cm_types.specs.Told.{rule}
 use Rattle.cm_types.specs.Names.{Names, look}
 use Rattle.cm_types.specs.Rules as rules
-use Rattle.cm_types.specs.Flats.{same_base, same_flat, width_of, is_small, bool_flat, bool_kind, is_value, is_bool, is_integer, agree, wanted, option_flat, option_of, ty_of_flat, sort_flat, int_flat, enum_flat}
+use Rattle.cm_types.specs.Flats.{same_base, same_flat, width_of, is_small, bool_flat, bool_kind, is_value, is_bool}
+use Rattle.cm_types.specs.Flats.{is_integer, agree, wanted, option_flat, option_of, ty_of_flat, sort_flat, int_flat}
+use Rattle.cm_types.specs.Flats.{enum_flat}
 use Rattle.cm_types.specs.Types.{type_named, type_step, type_told}
 use Rattle.cm_types.specs.Expressions.{typed}
 use Rattle.cm_types.proofs.Items.{no_more, holds, nat_sym}

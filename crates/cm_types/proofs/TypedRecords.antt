@@ -1,5 +1,6 @@
 -- The fields of a record in which no rule fails.
-use Rattle.std.proofs.Common.{◌≡◌, ℕ, suc, ◌+◌, ◌≤◌, ◌&&◌, ltb, leb, not, true, false, List, [], ◌∷◌, ◌++◌, map, length, slice_get, Option, Some, refl, sym, ap, ◌∙◌, append_assoc}
+use Rattle.std.proofs.Common.{◌≡◌, ℕ, suc, ◌+◌, ◌≤◌, ◌&&◌, ltb, leb, not, true, false, List, [], ◌∷◌, ◌++◌, map, length}
+use Rattle.std.proofs.Common.{slice_get, Option, Some, refl, sym, ap, ◌∙◌, append_assoc}
 use Rattle.std.specs.Prelude.{option_map}
 use Rattle.std.specs.List.{list_all}
 use Rattle.std.proofs.lemmas.Bool.{and_from}
@@ -27,7 +28,8 @@ use Rattle.cm_types.specs.Rules as rules
 use Rattle.cm_types.specs.Flats.{is_small, widths_of, integers_of, record_flat, ty_of, ty_of_flat}
 use Rattle.cm_types.specs.Types.{type_told}
 use Rattle.cm_types.specs.Declarations.{model_part, no_params, field_told, fields_told}
-use Rattle.cm_types.proofs.Items.{Each, each_as, each_more, GoesOn, no_more, holds, not_true, map_more, length_map, still_at, stands_behind}
+use Rattle.cm_types.proofs.Items.{Each, each_as, each_more, GoesOn, no_more, holds, not_true, map_more, length_map}
+use Rattle.cm_types.proofs.Items.{still_at, stands_behind}
 use Rattle.cm_types.proofs.Deepening.{out_base}
 use Rattle.cm_types.proofs.DistinctLists.{taken_is, distinct_more}
 use Rattle.cm_types.proofs.Measured.{IsFlat, wider, in_use}

@@ -1,5 +1,6 @@
 -- Parameters and bodies of functions and calls, in which no rule fails.
-use Rattle.std.proofs.Common.{◌≡◌, ℕ, ◌≤◌, ◌||◌, ltb, leb, not, true, false, List, [], ◌∷◌, ◌++◌, map, length, sum, Option, Some, is_some, refl, sym, ap, ◌∙◌, append_assoc}
+use Rattle.std.proofs.Common.{◌≡◌, ℕ, ◌≤◌, ◌||◌, ltb, leb, not, true, false, List, [], ◌∷◌, ◌++◌, map, length, sum}
+use Rattle.std.proofs.Common.{Option, Some, is_some, refl, sym, ap, ◌∙◌, append_assoc}
 use Rattle.std.specs.List.{list_all}
 use Rattle.std.specs.Str.{bytes_eq}
 use Rattle.std.proofs.lemmas.Bool.{and_parts, and_from}
@@ -30,7 +31,8 @@ use Rattle.cm_types.specs.Flats as flats
 use Rattle.cm_types.specs.Flats.{widths_of, integers_of, are_parameters, ty_of, ty_of_flat}
 use Rattle.cm_types.specs.Types.{type_told}
 use Rattle.cm_types.specs.Statements.{unbound, of_block}
-use Rattle.cm_types.specs.Declarations.{model_part, no_params, params_told, param_told, all_params_told, returning_told, weight_told, body_told, reply_in, routine_told}
+use Rattle.cm_types.specs.Declarations.{model_part, no_params, params_told, param_told, all_params_told, returning_told}
+use Rattle.cm_types.specs.Declarations.{weight_told, body_told, reply_in, routine_told}
 use Rattle.cm_types.proofs.Items.{no_more, holds, not_true, or_false, map_more, length_map}
 use Rattle.cm_types.proofs.DistinctLists.{taken_is, distinct_more, apart_more, false_if}
 use Rattle.cm_types.proofs.Measured.{IsFlat, in_use}

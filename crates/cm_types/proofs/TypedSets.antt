@@ -1,5 +1,7 @@
 -- Sets of fields, where no rule fails.
-use Rattle.std.proofs.Common.{◌≡◌, ℕ, suc, ◌≤◌, ◌<◌, ◌==◌, ◌&&◌, ◌||◌, ltb, not, Bool, true, false, List, [], ◌∷◌, ◌++◌, map, length, Option, Some, None, refl, sym, ap, ◌∙◌, subst, arith, if◌then◌else◌, inl, inr}
+use Rattle.std.proofs.Common.{◌≡◌, ℕ, suc, ◌≤◌, ◌<◌, ◌==◌, ◌&&◌, ◌||◌, ltb, not, Bool, true, false, List, [], ◌∷◌, ◌++◌}
+use Rattle.std.proofs.Common.{map, length, Option, Some, None, refl, sym, ap, ◌∙◌, subst, arith, if◌then◌else◌, inl}
+use Rattle.std.proofs.Common.{inr}
 use Rattle.std.proofs.lemmas.Bool.{and_parts, and_from, lt-ltb, ltb-true}
 use Rattle.std.proofs.lemmas.Bool.Decides.{eqb_tells}
 use Rattle.std.proofs.lemmas.List.{length-append}
@@ -19,7 +21,8 @@ use Rattle.cm_types.specs.Told.{rule}
 use Rattle.cm_types.specs.Names.{Names}
 use Rattle.cm_types.specs.Rules as rules
 use Rattle.cm_types.specs.Flats.{wanted, ty_of_flat}
-use Rattle.cm_types.specs.Expressions.{SetMeaning, typed, fields_of, field_of, is_among, is_new, set_field, set_value, next_set_told, sets_told, no_sets, is_record_base, record_kind, with_told}
+use Rattle.cm_types.specs.Expressions.{SetMeaning, typed, fields_of, field_of, is_among, is_new, set_field, set_value}
+use Rattle.cm_types.specs.Expressions.{next_set_told, sets_told, no_sets, is_record_base, record_kind, with_told}
 use Rattle.cm_types.proofs.Items.{no_more, holds, not_true, or_false, nat_sym, map_more, length_map}
 use Rattle.cm_types.proofs.ModelForms as forms
 use Rattle.cm_types.proofs.Measured.{IsFlat}

@@ -1,10 +1,12 @@
 -- A block in which no rule fails becomes statements that are well typed and in order.
-use Rattle.std.proofs.Common.{◌≡◌, ℕ, ◌≤◌, ◌&&◌, nat_lt, not, Bool, true, false, List, [], ◌∷◌, ◌++◌, map, length, slice_get, Option, Some, None, is_some, refl, sym, ap, ◌∙◌, subst}
+use Rattle.std.proofs.Common.{◌≡◌, ℕ, ◌≤◌, ◌&&◌, nat_lt, not, Bool, true, false, List, [], ◌∷◌, ◌++◌, map, length}
+use Rattle.std.proofs.Common.{slice_get, Option, Some, None, is_some, refl, sym, ap, ◌∙◌, subst}
 use Rattle.std.proofs.lemmas.Bool.{and_parts, and_from}
 use Rattle.cm_model.specs.Tables.{Tables}
 use Rattle.cm_model.specs.Kinds as kinds
 use Rattle.cm_model.specs.Blocks as blocks
-use Rattle.cm_model.specs.Blocks.{Typing, block_typing, typing_of, Ending, returns, is_in_order, endings_of, ending_step}
+use Rattle.cm_model.specs.Blocks.{Typing, block_typing, typing_of, Ending, returns, is_in_order, endings_of}
+use Rattle.cm_model.specs.Blocks.{ending_step}
 use Rattle.cm_model.specs.declared.place.Place.{Place}
 use Rattle.cm_model.specs.declared.ty.Ty.{Ty}
 use Rattle.cm_model.specs.declared.body.StateDecl.{StateDecl}
@@ -28,7 +30,9 @@ use Rattle.cm_types.specs.Names.{Names, more}
 use Rattle.cm_types.specs.Rules as rules
 use Rattle.cm_types.specs.Flats.{is_value, is_bool, value_of, wanted, payload_of, ty_of_flat}
 use Rattle.cm_types.specs.Expressions.{named, map_told, expr_told}
-use Rattle.cm_types.specs.Statements.{StmtMeaning, BlockMeaning, bound, cell_named, cell_told, block_told, condition_told, value_told, some_told, stmt_alone, stmt_step, block_step, of_block}
+use Rattle.cm_types.specs.Statements.{StmtMeaning, BlockMeaning, bound, cell_named, cell_told, block_told}
+use Rattle.cm_types.specs.Statements.{condition_told, value_told, some_told, stmt_alone, stmt_step, block_step}
+use Rattle.cm_types.specs.Statements.{of_block}
 use Rattle.cm_types.proofs.Items.{no_more, holds, not_true, map_more}
 use Rattle.cm_types.proofs.ModelForms as forms
 use Rattle.cm_types.proofs.Measured.{IsFlat, payload_flat, payload_fits}

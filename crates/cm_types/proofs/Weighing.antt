@@ -1,17 +1,22 @@
 -- What is well typed over the first functions weighs the same wherever these weigh the same.
-use Rattle.std.proofs.Common.{◌≡◌, ℕ, ◌+◌, ◌<◌, ltb, leb, Bool, true, false, not, ◌&&◌, List, [], ◌∷◌, ◌++◌, map, length, sum, slice_get, Option, Some, None, is_some, refl, sym, ap, ◌∙◌, subst, if◌then◌else◌}
+use Rattle.std.proofs.Common.{◌≡◌, ℕ, ◌+◌, ◌<◌, ltb, leb, Bool, true, false, not, ◌&&◌, List, [], ◌∷◌, ◌++◌, map}
+use Rattle.std.proofs.Common.{length, sum, slice_get, Option, Some, None, is_some, refl, sym, ap, ◌∙◌, subst}
+use Rattle.std.proofs.Common.{if◌then◌else◌}
 use Rattle.std.proofs.lemmas.Bool.{and_parts, ltb-true}
 use Rattle.std.specs.List.{list_all}
 use Rattle.cm_model.specs.Tables.{Tables}
 use Rattle.cm_model.specs.Types.{or_else}
-use Rattle.cm_model.specs.Kinds.{Kind, Number, Of, Set, scope, given, if_so, is_bool, is_integer, is_of, type_of, payload_of, are_of, is_named, field_of, are_sets, is_key, are_comparable, kind_step, set_step, kind_of}
+use Rattle.cm_model.specs.Kinds.{Kind, Number, Of, Set, scope, given, if_so, is_bool, is_integer, is_of, type_of}
+use Rattle.cm_model.specs.Kinds.{payload_of, are_of, is_named, field_of, are_sets, is_key, are_comparable, kind_step}
+use Rattle.cm_model.specs.Kinds.{set_step, kind_of}
 use Rattle.cm_model.specs.Blocks.{Typing, block_typing, typing_of, stmt_step}
 use Rattle.cm_model.specs.Limits.{is_number}
 use Rattle.cm_model.specs.Weights.{expr_weight, expr_weight_step, stmt_weight, stmt_weight_step, body_weight}
 use Rattle.cm_model.specs.declared.ty.Ty.{Ty}
 use Rattle.cm_model.specs.declared.ty.Part.{Part}
 use Rattle.cm_model.specs.declared.body.StateDecl.{StateDecl}
-use Rattle.cm_model.specs.declared.body.SetField.{SetField, fold-SetField, out-SetField, roll-out-SetField, fold-roll-SetField}
+use Rattle.cm_model.specs.declared.body.SetField.{SetField, fold-SetField, out-SetField, roll-out-SetField}
+use Rattle.cm_model.specs.declared.body.SetField.{fold-roll-SetField}
 use Rattle.cm_model.specs.declared.body.Expr.{Expr}
 use Rattle.cm_model.specs.declared.body.Expr.TheViews.{roll-Expr}
 use Rattle.cm_model.specs.declared.body.Expr.TheOpen.{Expr-F}

@@ -1,5 +1,7 @@
 -- A tree in which no rule fails has well typed tables.
-use Rattle.std.proofs.Common.{◌≡◌, ℕ, zero, suc, ◌+◌, ◌≤◌, ◌⊎◌, inl, inr, ltb, leb, Bool, true, IsTrue, List, [], ◌∷◌, ◌++◌, length, slice_get, codes, Some, None, refl, sym, ap, ◌∙◌, subst, arith, append_assoc}
+use Rattle.std.proofs.Common.{◌≡◌, ℕ, zero, suc, ◌+◌, ◌≤◌, ◌⊎◌, inl, inr, ltb, leb, Bool, true, IsTrue, List, [], ◌∷◌}
+use Rattle.std.proofs.Common.{◌++◌, length, slice_get, codes, Some, None, refl, sym, ap, ◌∙◌, subst, arith}
+use Rattle.std.proofs.Common.{append_assoc}
 use Rattle.std.specs.List.{list_all}
 use Rattle.std.proofs.lemmas.Bool.{and_parts, and_from, le-leb, lt-ltb}
 use Rattle.std.proofs.lemmas.List.{length-append, append-nil}
@@ -33,7 +35,9 @@ use Rattle.cm_types.specs.Rules as rules
 use Rattle.cm_types.specs.Flats.{is_small, widths_of, integers_of, record_flat, record_of, ty_of}
 use Rattle.cm_types.specs.Types.{type_told}
 use Rattle.cm_types.specs.Expressions.{number_in}
-use Rattle.cm_types.specs.Declarations.{next_named, is_range, declare, fields_told, no_params, key_of, map_types_told, map_entry, invariant_told, inside, routine_told, decl_told, decls_told, no_names, no_tables, tables_in, tables_of, faults_of}
+use Rattle.cm_types.specs.Declarations.{next_named, is_range, declare, fields_told, no_params, key_of, map_types_told}
+use Rattle.cm_types.specs.Declarations.{map_entry, invariant_told, inside, routine_told, decl_told, decls_told}
+use Rattle.cm_types.specs.Declarations.{no_names, no_tables, tables_in, tables_of, faults_of}
 use Rattle.cm_types.proofs.Items.{Each, each_as, each_more, GoesOn, added, below, no_more, holds, all_more, length_map}
 use Rattle.cm_types.proofs.Measured.{IsFlat}
 use Rattle.cm_types.proofs.Recorded.{flat_parts, record_fits}
@@ -41,7 +45,8 @@ use Rattle.cm_types.proofs.Standing.{FitsEntry, IsField, ScopeFits, fits_wider, 
 use Rattle.cm_types.proofs.TypedParts.{BoolFirst}
 use Rattle.cm_types.proofs.TypedRecords.{fields_fit, no_fields, entries_fit, FieldAt, record_is}
 use Rattle.cm_types.proofs.TypedRoutines.{names_in}
-use Rattle.cm_types.proofs.TypedDecls.{each_from_more, one_within, few_of, variants_fit, variants_leave, declared, invariant_fits, cell_fits, map_fits, weights_more, fits_routine, call_is}
+use Rattle.cm_types.proofs.TypedDecls.{each_from_more, one_within, few_of, variants_fit, variants_leave, declared}
+use Rattle.cm_types.proofs.TypedDecls.{invariant_fits, cell_fits, map_fits, weights_more, fits_routine, call_is}
 use Rattle.cm_types.proofs.Growing.{Within, decls_within, as_many}
 use Rattle.cm_types.proofs.FromText.{FromText}
 use Rattle.cm_types.proofs.DistinctNames.{decls_once}

@@ -1,6 +1,8 @@
 -- What declarations and a whole tree are told to be.
-use Rattle.std.specs.Prelude.{◌≡◌, ℕ, ◌+◌, ◌≤◌, ltb, leb, int_le, Bool, not, ◌&&◌, List, [], ◌∷◌, ◌++◌, length, codes, Option, Some, None, Result, Ok, Err}
-use Rattle.cm_model.specs.Limits.{declaration_limit, function_limit, call_limit, variant_limit, parameters_width_limit, width_limit, invariant_weight_limit, body_weight_limit, is_number}
+use Rattle.std.specs.Prelude.{◌≡◌, ℕ, ◌+◌, ◌≤◌, ltb, leb, int_le, Bool, not, ◌&&◌, List, [], ◌∷◌, ◌++◌, length, codes}
+use Rattle.std.specs.Prelude.{Option, Some, None, Result, Ok, Err}
+use Rattle.cm_model.specs.Limits.{declaration_limit, function_limit, call_limit, variant_limit, parameters_width_limit}
+use Rattle.cm_model.specs.Limits.{width_limit, invariant_weight_limit, body_weight_limit, is_number}
 use Rattle.cm_model.specs.Tables.{Tables, tables}
 use Rattle.cm_model.specs.Weights.{expr_weight, body_weight}
 use Rattle.cm_model.specs.declared.place.Place.{Place}

@@ -1,5 +1,6 @@
 -- What expressions are told to be: a line an alternative of the grammar.
-use Rattle.std.specs.Prelude.{ℕ, ◌==◌, ℤ, pos, neg_ℤ, ltb, Bool, true, false, not, ◌&&◌, ◌||◌, if◌then◌else◌, List, [], ◌∷◌, ◌++◌, length, slice_get, Option, Some, None}
+use Rattle.std.specs.Prelude.{ℕ, ◌==◌, ℤ, pos, neg_ℤ, ltb, Bool, true, false, not, ◌&&◌, ◌||◌, if◌then◌else◌, List, []}
+use Rattle.std.specs.Prelude.{◌∷◌, ◌++◌, length, slice_get, Option, Some, None}
 use Rattle.std.specs.List.{list_any}
 use Rattle.cm_model.specs.Limits.{is_number}
 use Rattle.cm_model.specs.declared.place.Place.{Place}
@@ -21,7 +22,8 @@ use Rattle.cm_syntax.specs.declared.tree.Unary.{Unary}
 use Rattle.cm_syntax.specs.declared.tree.Post.{Post}
 use Rattle.cm_syntax.specs.declared.tree.Set.{Set}
 use Rattle.cm_syntax.specs.declared.tree.Cmp.TheOpen as layer
-use Rattle.cm_syntax.specs.declared.tree.Cmp.TheFolds.{fold-Cmp, fold-Expr, fold-Primary, fold-Sum, fold-Unary, fold-Post, fold-Set}
+use Rattle.cm_syntax.specs.declared.tree.Cmp.TheFolds.{fold-Cmp, fold-Expr, fold-Primary, fold-Sum, fold-Unary}
+use Rattle.cm_syntax.specs.declared.tree.Cmp.TheFolds.{fold-Post, fold-Set}
 use Rattle.cm_types.specs.declared.flat.Base.{Base}
 use Rattle.cm_types.specs.declared.flat.Base.TheVariants.{Record}
 use Rattle.cm_types.specs.declared.flat.Flat.{Flat}
@@ -37,7 +39,8 @@ use Rattle.cm_types.specs.declared.told.FieldPath.{FieldPath}
 use Rattle.cm_types.specs.declared.told.Sets.{Sets}
 use Rattle.cm_types.specs.Told.{Told, fine, given, rule, refused, fails}
 use Rattle.cm_types.specs.Names.{Names, look, in_invariant, it_name, found}
-use Rattle.cm_types.specs.Flats.{int_flat, enum_flat, bool_kind, kind_of, value_of, is_value, is_bool, is_integer, are_equal_kinds, wanted, option_of, ty_of}
+use Rattle.cm_types.specs.Flats.{int_flat, enum_flat, bool_kind, kind_of, value_of, is_value, is_bool, is_integer}
+use Rattle.cm_types.specs.Flats.{are_equal_kinds, wanted, option_of, ty_of}
 use Rattle.cm_types.specs.Types.{type_told}
 use Rattle.cm_types.specs.Rules as rules
 

@@ -1,5 +1,6 @@
 -- Types and kinds while a tree is checked, each absent where a rule took it. A rule that needs an absent one holds.
-use Rattle.std.specs.Prelude.{ℕ, zero, suc, ◌+◌, ◌-◌, ◌==◌, nat_lt, leb, Bool, true, false, not, ◌&&◌, ◌||◌, List, [], ◌∷◌, map, sum, Option, Some, None}
+use Rattle.std.specs.Prelude.{ℕ, zero, suc, ◌+◌, ◌-◌, ◌==◌, nat_lt, leb, Bool, true, false, not, ◌&&◌, ◌||◌, List, []}
+use Rattle.std.specs.Prelude.{◌∷◌, map, sum, Option, Some, None}
 use Rattle.std.specs.List.{list_any}
 use Rattle.std.specs.Option.{option_map}
 use Rattle.cm_model.specs.Limits.{width_limit, integer_limit, parameters_width_limit, parameters_integer_limit}

@@ -1,6 +1,7 @@
 -- The rule on least values: that of a cell's type satisfies the cell's invariant. It is asked of a tree in which no
 -- other rule fails.
-use Rattle.std.specs.Prelude.{◌≡◌, ℕ, ◌+◌, Bool, true, List, [], ◌∷◌, ◌++◌, slice_get, Option, Some, None, Result, Ok, Err}
+use Rattle.std.specs.Prelude.{◌≡◌, ℕ, ◌+◌, Bool, true, List, [], ◌∷◌, ◌++◌, slice_get, Option, Some, None, Result, Ok}
+use Rattle.std.specs.Prelude.{Err}
 use Rattle.cm_model.specs.Tables.{Tables}
 use Rattle.cm_model.specs.declared.place.Place.{Place}
 use Rattle.cm_model.specs.declared.body.StateDecl.{StateDecl}

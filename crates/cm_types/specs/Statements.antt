@@ -1,5 +1,6 @@
 -- What statements are told to be: a line an alternative of the grammar.
-use Rattle.std.specs.Prelude.{ℕ, ltb, Bool, true, false, not, ◌&&◌, ◌||◌, List, [], ◌∷◌, ◌++◌, length, Option, Some, None}
+use Rattle.std.specs.Prelude.{ℕ, ltb, Bool, true, false, not, ◌&&◌, ◌||◌, List, [], ◌∷◌, ◌++◌, length, Option, Some}
+use Rattle.std.specs.Prelude.{None}
 use Rattle.cm_model.specs.declared.place.Place.{Place}
 use Rattle.cm_model.specs.declared.body.Expr.{Expr as Made}
 use Rattle.cm_model.specs.declared.body.Stmt.{Stmt as Step}

@@ -7,7 +7,8 @@ ghost use Rattle.cm_types.specs.Told.{Answers};
 ghost use Rattle.cm_types.specs.Source.{IsRead};
 ghost use Rattle.cm_types.specs.Declarations.{tables_in};
 ghost use Rattle.cm_types.specs.LeastValues as LeastValues;
-ghost use Rattle.cm_types.specs.LeastValues.{meets_least, with_state, with_states, least_told, IsWalked, IsModelOf, LeastMeet};
+ghost use Rattle.cm_types.specs.LeastValues.{meets_least, with_state, with_states, least_told, IsWalked, IsModelOf};
+ghost use Rattle.cm_types.specs.LeastValues.{LeastMeet};
 ghost use Rattle.cm_types.specs.Rules as Rules;
 
 use crate::fault::rule;

@@ -5,7 +5,8 @@ ghost use Rattle.cm_syntax.specs.declared.tree.Decl.TheVariants as decl;
 ghost use Rattle.cm_types.specs.Told.{Answers};
 ghost use Rattle.cm_types.specs.Names.{is_taken};
 ghost use Rattle.cm_types.specs.Declarations as Declarations;
-ghost use Rattle.cm_types.specs.Declarations.{decl_told, params_told, all_params_told, body_told, routine_told, inside, reply_in, no_params};
+ghost use Rattle.cm_types.specs.Declarations.{decl_told, params_told, all_params_told, body_told, routine_told, inside};
+ghost use Rattle.cm_types.specs.Declarations.{reply_in, no_params};
 
 use crate::decl::copy_name;
 use crate::fault::{refused, rule};

@@ -15,7 +15,8 @@ use Rattle.cm_value.specs.Least.{least_of, least_records}
 use Rattle.cm_value.specs.Relabelling.{relabelled}
 use Rattle.cm_value.proofs.Members.{member-elem, member-int, member-rec}
 use Rattle.cm_value.proofs.Relabelled.{relabel-elem, relabel-int, relabel-tag, relabel-rec, relabel-some}
-use Rattle.cm_value.proofs.Types.{out_sort, out_int, out_enum, out_rec, out_option, fold-sort, fold-int_type, fold-enum, fold-record, fold-option}
+use Rattle.cm_value.proofs.Types.{out_sort, out_int, out_enum, out_rec, out_option, fold-sort, fold-int_type, fold-enum}
+use Rattle.cm_value.proofs.Types.{fold-record, fold-option}
 use Rattle.cm_value.specs.Example.{example, example_ints, example_enums, point, node}
 
 pub example_is_well_typed : IsWellTyped example
@@ -40,8 +41,10 @@ example_is_well_typed = record {
 }
 
 -- tables with the example's parts
-pub parts_well_typed : (names : List (List ℕ)) (ints : List IntDecl) (enums : List EnumDecl) (records : List RecDecl) (states : List StateDecl) (funs calls : List Call)
-    → names ≡ codes "K" ∷ codes "L" ∷ [] → ints ≡ example_ints → enums ≡ example_enums → records ≡ point ∷ node ∷ [] → states ≡ [] → funs ≡ [] → calls ≡ []
+pub parts_well_typed : (names : List (List ℕ)) (ints : List IntDecl) (enums : List EnumDecl) (records : List RecDecl)
+    (states : List StateDecl) (funs calls : List Call)
+    → names ≡ codes "K" ∷ codes "L" ∷ [] → ints ≡ example_ints → enums ≡ example_enums → records ≡ point ∷ node ∷ []
+    → states ≡ [] → funs ≡ [] → calls ≡ []
     → IsWellTyped (tables names ints enums records states funs calls)
 unfolding example
 parts_well_typed names ints enums records states funs calls a b c d e f g =
@@ -49,8 +52,10 @@ parts_well_typed names ints enums records states funs calls a b c d e f g =
     subst IsWellTyped same example_is_well_typed
 
 -- tables with the example's parts are the example
-pub parts_are : (names : List (List ℕ)) (ints : List IntDecl) (enums : List EnumDecl) (records : List RecDecl) (states : List StateDecl) (funs calls : List Call)
-    → names ≡ codes "K" ∷ codes "L" ∷ [] → ints ≡ example_ints → enums ≡ example_enums → records ≡ point ∷ node ∷ [] → states ≡ [] → funs ≡ [] → calls ≡ []
+pub parts_are : (names : List (List ℕ)) (ints : List IntDecl) (enums : List EnumDecl) (records : List RecDecl)
+    (states : List StateDecl) (funs calls : List Call)
+    → names ≡ codes "K" ∷ codes "L" ∷ [] → ints ≡ example_ints → enums ≡ example_enums → records ≡ point ∷ node ∷ []
+    → states ≡ [] → funs ≡ [] → calls ≡ []
     → tables names ints enums records states funs calls ≡ example
 unfolding example
 parts_are names ints enums records states funs calls a b c d e f g = rw (a, b, c, d, e, f, g) refl
@@ -77,7 +82,8 @@ unfolding example
 option_type = simp (fold-sort, fold-int_type, fold-enum, fold-record, fold-option)
 
 -- the least node
-pub least_node : least_of example (ty.Rec 1) ≡ value.Rec (value.Rec (value.Elem 0 ∷ value.Int (pos 2) ∷ []) ∷ value.None ∷ value.Tag 0 ∷ value.Elem 0 ∷ [])
+pub least_node : least_of example (ty.Rec 1) ≡ value.Rec (value.Rec (value.Elem 0 ∷ value.Int (pos 2) ∷ [])
+    ∷ value.None ∷ value.Tag 0 ∷ value.Elem 0 ∷ [])
 unfolding example least_records
 least_node = simp (out_sort, out_int, out_enum, out_rec, out_option)
 
@@ -98,7 +104,20 @@ unfolding example
 element_exchanged = simp (relabel-elem, out_sort)
 
 pub node_exchanged : relabelled example (record { sort = 0; x = 0; y = 1 }) (ty.Rec 1)
-    (value.Rec (value.Rec (value.Elem 0 ∷ value.Int (pos 2) ∷ []) ∷ value.Some (value.Elem 1) ∷ value.Tag 1 ∷ value.Elem 1 ∷ []))
-    ≡ value.Rec (value.Rec (value.Elem 1 ∷ value.Int (pos 2) ∷ []) ∷ value.Some (value.Elem 0) ∷ value.Tag 1 ∷ value.Elem 1 ∷ [])
+    (value.Rec (value.Rec (value.Elem 0 ∷ value.Int (pos 2) ∷ []) ∷ value.Some (value.Elem 1) ∷ value.Tag 1
+    ∷ value.Elem 1 ∷ []))
+    ≡ value.Rec (value.Rec (value.Elem 1 ∷ value.Int (pos 2) ∷ []) ∷ value.Some (value.Elem 0) ∷ value.Tag 1
+    ∷ value.Elem 1 ∷ [])
 unfolding example
-node_exchanged = simp (relabel-elem, relabel-int, relabel-tag, relabel-rec, relabel-some, out_sort, out_int, out_enum, out_rec, out_option)
+node_exchanged = simp (
+  relabel-elem,
+  relabel-int,
+  relabel-tag,
+  relabel-rec,
+  relabel-some,
+  out_sort,
+  out_int,
+  out_enum,
+  out_rec,
+  out_option,
+)

@@ -2,7 +2,8 @@
 use Rattle.std.proofs.Common.{◌≡◌, ℕ, ℤ, List, map, sym, ap, ◌∙◌}
 use Rattle.cm_value.specs.declared.value.Value.{Value}
 use Rattle.cm_value.specs.declared.value.Value.TheVariants as value
-use Rattle.cm_value.specs.declared.value.Value.TheVariants.{rolls-Elem, rolls-Int, rolls-Tag, rolls-Rec, rolls-None, rolls-Some}
+use Rattle.cm_value.specs.declared.value.Value.TheVariants.{rolls-Elem, rolls-Int, rolls-Tag, rolls-Rec, rolls-None}
+use Rattle.cm_value.specs.declared.value.Value.TheVariants.{rolls-Some}
 use Rattle.cm_value.specs.declared.value.Value.TheOpen.{Value-F}
 use Rattle.cm_value.specs.declared.value.Value.TheFolds.{fold-Value, fold-roll-Value}
 

@@ -1,5 +1,7 @@
 -- The numbers in the values of a well typed model are limited.
-use Rattle.std.proofs.Common.{◌≡◌, ℕ, zero, suc, ◌<◌, ◌≤◌, ℤ, pos, neg_ℤ, ◌≤ℤ◌, Bool, true, ◌&&◌, List, [], ◌∷◌, map, length, Option, Some, None, slice_get, IsTrue, ltb, leb, int_le, refl, sym, ◌∙◌, subst, arith}
+use Rattle.std.proofs.Common.{◌≡◌, ℕ, zero, suc, ◌<◌, ◌≤◌, ℤ, pos, neg_ℤ, ◌≤ℤ◌, Bool, true, ◌&&◌, List, [], ◌∷◌, map}
+use Rattle.std.proofs.Common.{length, Option, Some, None, slice_get, IsTrue, ltb, leb, int_le, refl, sym, ◌∙◌, subst}
+use Rattle.std.proofs.Common.{arith}
 use Rattle.std.specs.List.{list_all}
 use Rattle.std.proofs.lemmas.Bool.{ltb-true, lt-ltb, leb-true}
 use Rattle.std.proofs.lemmas.Int.{ints}
@@ -13,7 +15,9 @@ use Rattle.cm_model.specs.declared.ty.EnumDecl.{EnumDecl}
 use Rattle.cm_model.specs.declared.ty.RecDecl.{RecDecl}
 use Rattle.cm_value.specs.declared.value.Value.{Value}
 use Rattle.cm_value.specs.declared.value.Value.TheVariants as value
-use Rattle.cm_value.specs.Membership.{member_of, are_members, are_values_of, IsValueOf, is_value_of, is_number_of, is_variant_of, is_record_of, is_some_of, is_within, has_variant, has_fields, field_types}
+use Rattle.cm_value.specs.Membership.{member_of, are_members, are_values_of, IsValueOf, is_value_of, is_number_of}
+use Rattle.cm_value.specs.Membership.{is_variant_of, is_record_of, is_some_of, is_within, has_variant, has_fields}
+use Rattle.cm_value.specs.Membership.{field_types}
 use Rattle.cm_value.specs.Limits.{is_limited, limited_step}
 use Rattle.cm_value.proofs.Folds.{fold-elem, fold-int, fold-tag, fold-rec, fold-none, fold-some}
 use Rattle.cm_value.proofs.Declared.{both, and_true, range_at, enum_at}
@@ -39,7 +43,8 @@ tested : (a b : ℤ) → a ≤ℤ b → int_le a b ≡ true
 tested a b h = grind (arith, ints)
 
 -- an integer between two that are within a million of 0 is so too
-between : (lo hi n : ℤ) → is_number lo ≡ true → is_number hi ≡ true → int_le lo n ≡ true → int_le n hi ≡ true → is_number n ≡ true
+between : (lo hi n : ℤ) → is_number lo ≡ true → is_number hi ≡ true → int_le lo n ≡ true → int_le n hi ≡ true
+    → is_number n ≡ true
 between lo hi n low high above below =
     let a = at_most (neg_ℤ (pos 1000000)) lo (both (int_le (neg_ℤ (pos 1000000)) lo) (int_le lo (pos 1000000)) low).0 in
     let b = at_most hi (pos 1000000) (both (int_le (neg_ℤ (pos 1000000)) hi) (int_le hi (pos 1000000)) high).1 in
@@ -67,12 +72,15 @@ are_limited vs = list_all (λ b. b) (map is_limited vs)
 pub limited_parts : (vs : List Value) → IsTrue (is_limited (value.Rec vs)) → IsTrue (are_limited vs)
 limited_parts vs is = sym (limited-rec vs) ∙ is
 
-pub limited_part : (vs : List Value) (i : ℕ) (v : Value) → IsTrue (are_limited vs) → slice_get vs i ≡ Some v → IsTrue (is_limited v)
+pub limited_part : (vs : List Value) (i : ℕ) (v : Value) → IsTrue (are_limited vs) → slice_get vs i ≡ Some v
+    → IsTrue (is_limited v)
 limited_part [] i v all at = absurd (cc)
-limited_part (w ∷ vs) zero v all at = let same : w ≡ v = cc in subst (λ z. IsTrue (is_limited z)) same (both (is_limited w) (are_limited vs) all).0
+limited_part (w ∷ vs) zero v all at = let same : w ≡ v = cc in
+    subst (λ z. IsTrue (is_limited z)) same (both (is_limited w) (are_limited vs) all).0
 limited_part (w ∷ vs) (suc i) v all at = limited_part vs i v (both (is_limited w) (are_limited vs) all).1 at
 
-pub limited_field : (vs : List Value) (i : ℕ) (v : Value) → IsTrue (is_limited (value.Rec vs)) → slice_get vs i ≡ Some v → IsTrue (is_limited v)
+pub limited_field : (vs : List Value) (i : ℕ) (v : Value) → IsTrue (is_limited (value.Rec vs)) → slice_get vs i ≡ Some v
+    → IsTrue (is_limited v)
 limited_field vs i v is at = limited_part vs i v (limited_parts vs is) at
 
 module _ (t : Tables) (typed : IsWellTyped t) where
@@ -99,7 +107,8 @@ module _ (t : Tables) (typed : IsWellTyped t) where
     where
       found : (o : Option EnumDecl) → slice_get t.enums e ≡ o → has_variant o n ≡ true → ltb n 64 ≡ true
       found (Some d) at is =
-          let most : length d.variants ≤ 64 = leb-true (length d.variants) 64 (both (leb 1 (length d.variants)) (leb (length d.variants) 64) (enum_at t typed e d at)).1 in
+          let most : length d.variants ≤ 64 = leb-true (length d.variants) 64
+          (both (leb 1 (length d.variants)) (leb (length d.variants) 64) (enum_at t typed e d at)).1 in
           let below : n < length d.variants = ltb-true n (length d.variants) is in
           lt-ltb n 64 (omega arith)
       found None at is = absurd (cc)
@@ -108,14 +117,16 @@ module _ (t : Tables) (typed : IsWellTyped t) where
   variant_limited (Ty-F.Rec r) n is = absurd (cc)
   variant_limited (Ty-F.Option u) n is = absurd (cc)
 
-  all_limited : (vs : List Value) (us : List Ty) → Each Limited vs → are_members (map (member_of t) vs) us ≡ true → IsTrue (are_limited vs)
+  all_limited : (vs : List Value) (us : List Ty) → Each Limited vs → are_members (map (member_of t) vs) us ≡ true
+      → IsTrue (are_limited vs)
   all_limited [] us limited are = refl
   all_limited (v ∷ vs) [] limited are = absurd (cc)
   all_limited (v ∷ vs) (u ∷ us) limited are =
       let parts = both (is_value_of t u v) (are_members (map (member_of t) vs) us) are in
       and_true (is_limited v) (are_limited vs) (limited.0 u parts.0) (all_limited vs us limited.1 parts.1)
 
-  record_limited : (vs : List Value) → Each Limited vs → (x : Ty-F Ty) → is_record_of t x (map (member_of t) vs) ≡ true → IsTrue (are_limited vs)
+  record_limited : (vs : List Value) → Each Limited vs → (x : Ty-F Ty) → is_record_of t x (map (member_of t) vs) ≡ true
+      → IsTrue (are_limited vs)
   record_limited vs limited (Ty-F.Rec r) is = found (slice_get t.records r) is
     where
       found : (o : Option RecDecl) → has_fields o (map (member_of t) vs) ≡ true → IsTrue (are_limited vs)

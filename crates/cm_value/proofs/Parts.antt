@@ -1,5 +1,6 @@
 -- Values relabelled one after another.
-use Rattle.std.proofs.Common.{◌≡◌, ℕ, zero, suc, ◌+◌, ◌<◌, List, [], ◌∷◌, ◌++◌, map, drop, length, get_or, Option, slice_get, refl, sym, ap, ◌∙◌, append_assoc, arith, add-one}
+use Rattle.std.proofs.Common.{◌≡◌, ℕ, zero, suc, ◌+◌, ◌<◌, List, [], ◌∷◌, ◌++◌, map, drop, length, get_or, Option}
+use Rattle.std.proofs.Common.{slice_get, refl, sym, ap, ◌∙◌, append_assoc, arith, add-one}
 use Rattle.std.specs.Prelude.{option_map}
 use Rattle.cm_model.specs.declared.ty.Ty.{Ty}
 use Rattle.cm_model.specs.declared.ty.Part.{Part}
@@ -26,10 +27,12 @@ module _ (f : Value → Relabel) where
   head_and_rest (v ∷ vs) (p ∷ ps) (suc i) d lt = head_and_rest vs ps i d (omega arith)
 
   -- one more value is made
-  pub one_more : (vs : List Value) (ps : List Part) (i : ℕ) (v w : Value) (ty : Option Ty) (old new whole : List Value) → i < length vs
+  pub one_more : (vs : List Value) (ps : List Part) (i : ℕ) (v w : Value) (ty : Option Ty) (old new whole : List Value)
+      → i < length vs
       → v ≡ get_or vs i v → ty ≡ option_map type_of (slice_get ps i) → w ≡ f v ty → new ≡ old ++ w ∷ []
       → old ++ rest vs ps i ≡ whole → new ++ rest vs ps (i + 1) ≡ whole
   one_more vs ps i v w ty old new whole lt is typed made pushed before =
       let next = head_and_rest vs ps i v lt in
-      let value : w ≡ f (get_or vs i v) (option_map type_of (slice_get ps i)) = made ∙ ap (λ x. f x ty) is ∙ ap (f (get_or vs i v)) typed in
+      let value : w ≡ f (get_or vs i v) (option_map type_of (slice_get ps i)) = made ∙ ap (λ x. f x ty) is
+      ∙ ap (f (get_or vs i v)) typed in
       rw (add-one, pushed, append_assoc, value) (ap (λ r. old ++ r) (sym next) ∙ before)

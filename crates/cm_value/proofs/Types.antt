@@ -25,7 +25,8 @@ pub out_option : (u : Ty) → out-Ty (ty.Option u) ≡ Ty-F.Option u
 out_option u = ap out-Ty (sym (rolls-Option u)) ∙ out-roll-Ty (Ty-F.Option u)
 
 -- whether a type is declared, by its form
-pub type_before : (t : Tables) (n : ℕ) (u : Ty) → is_type_before t n u ≡ ty_step t n (map-Ty Ty Bool (is_type_before t n) (out-Ty u))
+pub type_before : (t : Tables) (n : ℕ) (u : Ty)
+    → is_type_before t n u ≡ ty_step t n (map-Ty Ty Bool (is_type_before t n) (out-Ty u))
 type_before t n u = ap (is_type_before t n) (sym (roll-out-Ty u)) ∙ fold-roll-Ty Bool (ty_step t n) (out-Ty u)
 
 -- what a fold gives for each form of a type

@@ -16,7 +16,11 @@ example_enums =
     ∷ record { name = codes "colour"; variants = codes "red" ∷ codes "green" ∷ codes "blue" ∷ [] } ∷ []
 
 abbrev pub point : RecDecl
-point = record { name = codes "point"; fields = record { name = codes "at"; ty = ty.Sort 0 } ∷ record { name = codes "size"; ty = ty.Int 0 } ∷ [] }
+point = record {
+  name = codes "point";
+  fields = record { name = codes "at"; ty = ty.Sort 0 }
+      ∷ record { name = codes "size"; ty = ty.Int 0 } ∷ [];
+}
 
 abbrev pub node : RecDecl
 node = record {

@@ -1,5 +1,6 @@
 -- When a value is a value of a type.
-use Rattle.std.specs.Prelude.{ℕ, ℤ, ltb, int_le, Bool, true, false, ◌&&◌, List, [], ◌∷◌, map, length, slice_get, Option, Some, None, IsTrue}
+use Rattle.std.specs.Prelude.{ℕ, ℤ, ltb, int_le, Bool, true, false, ◌&&◌, List, [], ◌∷◌, map, length, slice_get, Option}
+use Rattle.std.specs.Prelude.{Some, None, IsTrue}
 use Rattle.cm_model.specs.Tables.{Tables}
 use Rattle.cm_model.specs.declared.ty.Ty.{Ty, out-Ty}
 use Rattle.cm_model.specs.declared.ty.Ty.TheOpen.{Ty-F}

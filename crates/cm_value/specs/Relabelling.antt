@@ -1,5 +1,6 @@
 -- The exchange of two elements of a sort wherever they stand.
-use Rattle.std.specs.Prelude.{ℕ, ◌==◌, Bool, false, not, ◌&&◌, ◌||◌, IsTrue, List, [], ◌∷◌, slice_get, Option, Some, None, if◌then◌else◌}
+use Rattle.std.specs.Prelude.{ℕ, ◌==◌, Bool, false, not, ◌&&◌, ◌||◌, IsTrue, List, [], ◌∷◌, slice_get, Option, Some}
+use Rattle.std.specs.Prelude.{None, if◌then◌else◌}
 use Rattle.cm_model.specs.Tables.{Tables}
 use Rattle.cm_model.specs.declared.ty.Ty.{Ty, out-Ty}
 use Rattle.cm_model.specs.declared.ty.Ty.TheOpen.{Ty-F}

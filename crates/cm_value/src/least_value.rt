@@ -78,7 +78,8 @@ fn least_fields(
     records: &[RecDecl],
     fields: &[Part],
 ) -> Result<Vals, NoMemory>
-    ensures exact { IfOk result (λ parts. parts ≡ map (λ p. least_in ints.now (least_records ints.now records.now) p.ty) fields.now) }
+    ensures exact { IfOk result (λ parts. parts ≡ map (λ p. least_in ints.now (least_records ints.now records.now) p.ty)
+        fields.now) }
 {
     let mut parts = List::new(alloc);
     for field in fields {

@@ -1,7 +1,8 @@
 //! Whether a value is one of a type.
 
 ghost use Rattle.std.specs.Prelude.{◌≡◌, ◌↔◌, IsTrue, map, slice_get};
-ghost use Rattle.cm_value.specs.Membership.{is_value_of, IsValueOf, member_of, are_members, has_fields, is_within, has_variant};
+ghost use Rattle.cm_value.specs.Membership.{is_value_of, IsValueOf, member_of, are_members, has_fields, is_within};
+ghost use Rattle.cm_value.specs.Membership.{has_variant};
 
 use crate::Value;
 use cm_model::{EnumDecl, IntDecl, Model, Part, Ty};

@@ -4,7 +4,8 @@ ghost use Rattle.std.specs.Prelude.{◌≡◌, IfOk, map, slice_get, option_map,
 ghost use Rattle.std.specs.Option.{option_copied};
 ghost use Rattle.cm_model.specs.declared.ty.Ty.{out-Ty};
 ghost use Rattle.cm_value.specs.Membership.{IsValueOf};
-ghost use Rattle.cm_value.specs.Relabelling.{LacksBoth, relabelled, relabel_of, swapped, each_relabelled, is_sort_form, types_form, types_in, payload_form};
+ghost use Rattle.cm_value.specs.Relabelling.{LacksBoth, relabelled, relabel_of, swapped, each_relabelled, is_sort_form};
+ghost use Rattle.cm_value.specs.Relabelling.{types_form, types_in, payload_form};
 
 use crate::{Swap, Vals, Value, copy_value};
 use cm_model::{Boxed, List, Model, NoMemory, Part, RecDecl, Ty};
@@ -70,7 +71,8 @@ fn relabel_parts(
     fields: &[Part],
     by: &Swap,
 ) -> Result<Vals, NoMemory>
-    ensures exact { IfOk result (λ values. values ≡ each_relabelled (map (relabel_of model.now by.now) parts.now) (map (λ p. p.ty) fields.now)) }
+    ensures exact { IfOk result (λ values. values ≡ each_relabelled (map (relabel_of model.now by.now) parts.now)
+        (map (λ p. p.ty) fields.now)) }
 {
     let mut values = List::new(alloc);
     for i in 0..parts.len() {

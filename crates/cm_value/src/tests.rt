@@ -246,7 +246,8 @@ fn is_none_the_least(alloc: Global, model: &Model) -> Result<bool, NoMemory>
 }
 
 fn example_of_a_least_value()
-    ensures { least_of example (ty.Rec 1) ≡ value.Rec (value.Rec (value.Elem 0 ∷ value.Int (pos 2) ∷ []) ∷ value.None ∷ value.Tag 0 ∷ value.Elem 0 ∷ []) }
+    ensures { least_of example (ty.Rec 1) ≡ value.Rec (value.Rec (value.Elem 0 ∷ value.Int (pos 2) ∷ [])
+        ∷ value.None ∷ value.Tag 0 ∷ value.Elem 0 ∷ []) }
 {}
 
 fn example_of_membership()
@@ -259,7 +260,8 @@ fn example_of_membership()
 fn example_of_an_exchange()
     ensures element { relabelled example (record { sort = 0; x = 0; y = 1 }) (ty.Sort 0) (value.Elem 0) ≡ value.Elem 1 }
     ensures node { relabelled example (record { sort = 0; x = 0; y = 1 }) (ty.Rec 1)
-        (value.Rec (value.Rec (value.Elem 0 ∷ value.Int (pos 2) ∷ []) ∷ value.Some (value.Elem 1) ∷ value.Tag 1 ∷ value.Elem 1 ∷ []))
+        (value.Rec (value.Rec (value.Elem 0 ∷ value.Int (pos 2) ∷ []) ∷ value.Some (value.Elem 1) ∷ value.Tag 1
+        ∷ value.Elem 1 ∷ []))
         ≡ value.Rec (value.Rec (value.Elem 1 ∷ value.Int (pos 2) ∷ []) ∷ value.Some (value.Elem 0) ∷ value.Tag 1 ∷ value.Elem 1 ∷ []) }
 {}
 

@@ -1,5 +1,6 @@
 -- What a run keeps of the state and of the touched cells.
-use Rattle.std.proofs.Common.{◌≡◌, ℕ, suc, ◌+◌, ◌==◌, Bool, true, false, ◌&&◌, ◌||◌, List, [], ◌∷◌, ◌++◌, length, Option, Some, None, slice_get, refl, sym, ap, ◌∙◌, subst, if◌then◌else◌, arith}
+use Rattle.std.proofs.Common.{◌≡◌, ℕ, suc, ◌+◌, ◌==◌, Bool, true, false, ◌&&◌, ◌||◌, List, [], ◌∷◌, ◌++◌, length}
+use Rattle.std.proofs.Common.{Option, Some, None, slice_get, refl, sym, ap, ◌∙◌, subst, if◌then◌else◌, arith}
 use Rattle.cm_model.specs.declared.ty.IntDecl.{IntDecl}
 use Rattle.cm_model.specs.declared.body.Expr.{Expr}
 use Rattle.cm_model.specs.declared.body.StateDecl.{StateDecl}
@@ -8,7 +9,8 @@ use Rattle.cm_eval.specs.declared.log.CellName.{CellName}
 use Rattle.cm_eval.specs.Script.{Replies, Blocks, Decides, Reads, Writes}
 use Rattle.cm_eval.specs.State.{Store, Touched, look_up, put, with_cell, marked, same_value, same_key, same_cell}
 use Rattle.cm_eval.specs.Evaluation.{Doing, invariant_of}
-use Rattle.cm_eval.specs.Run.{Trace, Replied, Blocked, Logs, End, Ended, Stopped, logged, run, asked, checked, keys_compared, cells_compared, touch_of, added, touched_with, touched_at}
+use Rattle.cm_eval.specs.Run.{Trace, Replied, Blocked, Logs, End, Ended, Stopped, logged, run, asked, checked}
+use Rattle.cm_eval.specs.Run.{keys_compared, cells_compared, touch_of, added, touched_with, touched_at}
 use Rattle.cm_eval.specs.inner.Going.{compared_in}
 use Rattle.cm_eval.proofs.Same.{same_cell_equal}
 use Rattle.cm_eval.proofs.Comparing.{comparison_goes}
@@ -46,19 +48,24 @@ module _ (Q : Value → Store → Touched → Type 0) where
   asked_keeps t (Writes c v k) more h = tt
 
   -- a comparison goes on with whether the two are equal
-  compared_keeps : (t : Touched) (v w : Value) (k : Bool → Trace) → Keeps (k (same_value v w)) → Keeps (compared_in t v w k)
-  compared_keeps t v w k h = comparison_goes Trace (Blocked t) (λ d more. Logs t d (more d)) Keeps (λ d more g. g) tt v w k h
+  compared_keeps : (t : Touched) (v w : Value) (k : Bool → Trace) → Keeps (k (same_value v w))
+      → Keeps (compared_in t v w k)
+  compared_keeps t v w k h = comparison_goes Trace (Blocked t) (λ d more. Logs t d (more d)) Keeps (λ d more g. g)
+      tt v w k h
 
-  keys_keep : (k l : Option Value) (t : Touched) (f : Bool → Trace) → Keeps (f (same_key k l)) → Keeps (keys_compared k l t f)
+  keys_keep : (k l : Option Value) (t : Touched) (f : Bool → Trace) → Keeps (f (same_key k l))
+      → Keeps (keys_compared k l t f)
   keys_keep None None t f h = h
   keys_keep None (Some w) t f h = h
   keys_keep (Some v) None t f h = h
   keys_keep (Some v) (Some w) t f h = compared_keeps t v w f h
 
-  cells_keep : (c d : CellName) (t : Touched) (f : Bool → Trace) → Keeps (f (same_cell c d)) → Keeps (cells_compared c d t f)
+  cells_keep : (c d : CellName) (t : Touched) (f : Bool → Trace) → Keeps (f (same_cell c d))
+      → Keeps (cells_compared c d t f)
   cells_keep c d t f h = by (c.state == d.state) h
     where
-      by : (b : Bool) → Keeps (f (b && same_key c.key d.key)) → Keeps (if b then keys_compared c.key d.key t f else f false)
+      by : (b : Bool) → Keeps (f (b && same_key c.key d.key))
+          → Keeps (if b then keys_compared c.key d.key t f else f false)
       by true h = keys_keep c.key d.key t f h
       by false h = h
 
@@ -70,7 +77,8 @@ module _ (Q : Value → Store → Touched → Type 0) where
   touch_keeps (d ∷ ds) i c t found fresh f g =
       cells_keep c d t (λ s. if s then found i else touch_of ds (i + 1) c t found fresh)
       (by (same_cell c d) refl
-      (λ no. touch_keeps ds (i + 1) c t found fresh (λ n is. subst (λ m. Keeps (found m)) (omega arith) (f (suc n) is)) (λ more. g (neither no more))))
+      (λ no. touch_keeps ds (i + 1) c t found fresh (λ n is. subst (λ m. Keeps (found m)) (omega arith) (f (suc n) is))
+      (λ more. g (neither no more))))
     where
       neither : same_cell c d ≡ false → is_touched ds c ≡ false → (same_cell c d || is_touched ds c) ≡ false
       neither a b = ap (λ x. x || is_touched ds c) a ∙ b
@@ -80,7 +88,8 @@ module _ (Q : Value → Store → Touched → Type 0) where
       by true is later = subst (λ m. Keeps (found m)) (omega arith) (f 0 (ap Some (sym (same_cell_equal c d is))))
       by false is later = later is
 
-  checked_keeps : (ints : List IntDecl) (inv : Option Expr) (v : Value) (t : Touched) (more : Trace) → Keeps more → Keeps (checked ints inv v t more)
+  checked_keeps : (ints : List IntDecl) (inv : Option Expr) (v : Value) (t : Touched) (more : Trace)
+      → Keeps more → Keeps (checked ints inv v t more)
   checked_keeps ints None v t more h = h
   checked_keeps ints (Some e) v t more h = asked_keeps t (invariant_of ints e v) more h
 
@@ -88,11 +97,13 @@ module _ (Q : Value → Store → Touched → Type 0) where
     -- a touch of a cell, which is new or is found among the touched
     pub touched_keeps : (s : Store) (c : CellName) (t : Touched) (k : Value → ℕ → Touched → Trace) → P s t
         → ((d : StateDecl) → slice_get states c.state ≡ Some d → is_touched t.cells c ≡ false → P s (with_cell t c))
-        → ((v : Value) (i : ℕ) (after : Touched) → look_up s c ≡ Some v → slice_get after.cells i ≡ Some c → P s after → Keeps (k v i after))
+        → ((v : Value) (i : ℕ) (after : Touched) → look_up s c ≡ Some v → slice_get after.cells i ≡ Some c
+        → P s after → Keeps (k v i after))
         → Keeps (touched_at ints states s c t k)
     touched_keeps s c t k h grows more = found (slice_get states c.state) refl (look_up s c) refl
       where
-        found : (o : Option StateDecl) → slice_get states c.state ≡ o → (p : Option Value) → look_up s c ≡ p → Keeps (touched_with ints o p c t k)
+        found : (o : Option StateDecl) → slice_get states c.state ≡ o → (p : Option Value) → look_up s c ≡ p
+            → Keeps (touched_with ints o p c t k)
         found (Some d) is (Some v) there =
             touch_keeps t.cells 0 c t (λ i. k v i t) (added ints d.inv v c t (k v))
             (λ i at. subst (λ m. Keeps (k v m t)) (omega arith) (more v i t there at h))
@@ -102,19 +113,24 @@ module _ (Q : Value → Store → Touched → Type 0) where
         found None is p there = tt
 
     -- what keeps P when a cell is new and when one is written, and gives Q at a reply
-    module _ (adds : (s : Store) (t : Touched) (c : CellName) (d : StateDecl) → slice_get states c.state ≡ Some d → is_touched t.cells c ≡ false
+    module _ (adds : (s : Store) (t : Touched) (c : CellName) (d : StateDecl) → slice_get states c.state ≡ Some d
+        → is_touched t.cells c ≡ false
         → P s t → P s (with_cell t c))
-        (writes : (s : Store) (t : Touched) (c : CellName) (x : Value) (i : ℕ) → slice_get t.cells i ≡ Some c → P s t → P (put s c x) (marked t i))
+        (writes : (s : Store) (t : Touched) (c : CellName) (x : Value) (i : ℕ) → slice_get t.cells i ≡ Some c
+        → P s t → P (put s c x) (marked t i))
         (ends : (v : Value) (s : Store) (t : Touched) → P s t → Q v s t) where
       run_keeps : (d : Doing) (s : Store) (t : Touched) → P s t → Keeps (run ints states s t d)
       run_keeps (Replies v) s t h = ends v s t h
       run_keeps Blocks s t h = tt
       run_keeps (Decides d k) s t h = run_keeps (k d) s t h
       run_keeps (Reads c k) s t h =
-          touched_keeps s c t (λ v i after. run ints states s after (k v)) h (λ d is new. adds s t c d is new h) (λ v i after there at g. run_keeps (k v) s after g)
+          touched_keeps s c t (λ v i after. run ints states s after (k v)) h (λ d is new. adds s t c d is new h)
+          (λ v i after there at g. run_keeps (k v) s after g)
       run_keeps (Writes c x k) s t h =
-          touched_keeps s c t (λ v i after. run ints states (put s c x) (marked after i) k) h (λ d is new. adds s t c d is new h)
+          touched_keeps s c t (λ v i after. run ints states (put s c x) (marked after i) k) h
+          (λ d is new. adds s t c d is new h)
           (λ v i after there at g. run_keeps k (put s c x) (marked after i) (writes s after c x i at g))
 
-      pub script_keeps : (d : Doing) (s : Store) (t : Touched) (log : List ℕ) → P s t → EndKeeps (logged log (run ints states s t d))
+      pub script_keeps : (d : Doing) (s : Store) (t : Touched) (log : List ℕ) → P s t
+          → EndKeeps (logged log (run ints states s t d))
       script_keeps d s t log h = logged_keeps (run ints states s t d) log (run_keeps d s t h)

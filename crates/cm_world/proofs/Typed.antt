@@ -1,5 +1,6 @@
 -- What a world's types give: one default for each state.
-use Rattle.std.proofs.Common.{◌≡◌, ℕ, suc, true, List, [], ◌∷◌, map, length, Option, Some, None, slice_get, IsTrue, refl, sym, ap, ◌∙◌}
+use Rattle.std.proofs.Common.{◌≡◌, ℕ, suc, true, List, [], ◌∷◌, map, length, Option, Some, None, slice_get, IsTrue}
+use Rattle.std.proofs.Common.{refl, sym, ap, ◌∙◌}
 use Rattle.std.proofs.lemmas.Bool.{and_parts}
 use Rattle.cm_model.specs.Tables.{Tables}
 use Rattle.cm_model.specs.declared.ty.Ty.{Ty}
@@ -19,5 +20,6 @@ mapped f (x ∷ xs) = ap suc (mapped f xs)
 
 pub one_default_each : (t : Tables) (s : Store) → IsStateOf t s → length s.defaults ≡ length t.states
 one_default_each t s is =
-    sym (mapped (member_of t) s.defaults) ∙ as_many (map (member_of t) s.defaults) (map (λ d. d.value) t.states) is.defaults
+    sym (mapped (member_of t) s.defaults) ∙ as_many (map (member_of t) s.defaults) (map (λ d. d.value) t.states)
+    is.defaults
     ∙ mapped (λ d. d.value) t.states

@@ -14,7 +14,9 @@ more_or_fewer : (t : Tables) (tys : List Ty) (vs : List Value) → length vs ≢
 more_or_fewer t [] [] uneven = absurd (uneven refl)
 more_or_fewer t [] (v ∷ vs) uneven = refl
 more_or_fewer t (u ∷ tys) [] uneven = refl
-more_or_fewer t (u ∷ tys) (v ∷ vs) uneven = not_both (is_value_of t u v) (are_values_of t tys vs) (more_or_fewer t tys vs (λ e. uneven (ap suc e)))
+more_or_fewer t (u ∷ tys) (v ∷ vs) uneven = not_both (is_value_of t u v) (are_values_of t tys vs)
+    (more_or_fewer t tys vs (λ e. uneven (ap suc e)))
 
-pub uneven : {Z : Type 0} (t : Tables) (f : Z → Ty) (zs : List Z) (vs : List Value) → length vs ≢ length zs → are_values_of t (map f zs) vs ≡ false
+pub uneven : {Z : Type 0} (t : Tables) (f : Z → Ty) (zs : List Z) (vs : List Value) → length vs ≢ length zs
+    → are_values_of t (map f zs) vs ≡ false
 uneven t f zs vs ne = more_or_fewer t (map f zs) vs (λ e. ne (omega (arith, e, length-map zs f)))

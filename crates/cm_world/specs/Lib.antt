@@ -7,4 +7,4 @@ pub mod OpenPrefix
 pub mod Lexicographic
 pub mod Shape
 pub mod Tests
-pub mod Ran
+pub mod inner

@@ -34,7 +34,8 @@ second_after second (Stopped t log) = Blocked t log
 
 -- one call on a state, and the other on the state that it leaves; the log goes on
 abbrev pub run_of_order : Tables → Invocation → Invocation → Store → Touched → List ℕ → OrderEnd
-run_of_order t x y s touched log = second_after (evaluation_of t y.call y.args) (evaluation_of t x.call x.args s touched log)
+run_of_order t x y s touched log = second_after (evaluation_of t y.call y.args)
+    (evaluation_of t x.call x.args s touched log)
 
 -- how both orders ended: with what they left, or one of them blocked; and with the cells touched and the decisions
 pub data BothEnd : Type 0 where
@@ -60,7 +61,8 @@ ba_ended v w s (Blocked touched log) = OneBlocked touched log
 
 -- the order ba on the same initial state, with the log of ab going on
 abbrev pub ba_after : Tables → Pair → World → OrderEnd → BothEnd
-ba_after t p w (Replied x y s touched log) = ba_ended x y s (run_of_order t (call_b p w) (call_a p w) w.init touched log)
+ba_after t p w (Replied x y s touched log) = ba_ended x y s (run_of_order t (call_b p w) (call_a p w)
+    w.init touched log)
 ba_after t p w (Blocked touched log) = OneBlocked touched log
 
 abbrev pub run_of_ab : Tables → Pair → World → OrderEnd

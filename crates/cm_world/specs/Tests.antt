@@ -1,5 +1,6 @@
 -- The tests of a pair: one for each signature that a commuting world has.
-use Rattle.std.specs.Prelude.{◌≡◌, ℕ, ◌<◌, ◌≤◌, Bool, true, false, List, [], ◌∷◌, map, length, get_or, ℤ, ◌≤ℤ◌, IsTrue, if◌then◌else◌}
+use Rattle.std.specs.Prelude.{◌≡◌, ℕ, ◌<◌, ◌≤◌, Bool, true, false, List, [], ◌∷◌, map, length, get_or, ℤ, ◌≤ℤ◌, IsTrue}
+use Rattle.std.specs.Prelude.{if◌then◌else◌}
 use Rattle.cm_model.specs.Tables.{Tables}
 use Rattle.cm_model.specs.declared.pair.Pair.{Pair}
 use Rattle.cm_value.specs.Least.{least_of}
@@ -46,7 +47,8 @@ pub record IsTestOf (t : Tables) (p : Pair) (g : Signature) (w : World) : Type 0
   -- elements are their numbers in the shape
   pub elements : own_numbers (marks_of_world t p w) ≡ g.shape
   -- integers and variants are least
-  pub least : (v : World) → HasSignature t p g v → AreAtMost (integers (marks_of_world t p w)) (integers (marks_of_world t p v))
+  pub least : (v : World) → HasSignature t p g v → AreAtMost (integers (marks_of_world t p w))
+      (integers (marks_of_world t p v))
   pub defaults : w.init.defaults ≡ map (λ d. least_of t d.value) t.states
   -- the exceptions are the touched cells in the order of first touch
   pub exceptions : map (λ e. e.cell) w.init.exceptions ≡ touched_cells t p w
@@ -54,7 +56,8 @@ pub record IsTestOf (t : Tables) (p : Pair) (g : Signature) (w : World) : Type 0
 -- by path, and then by shape
 abbrev pub signature_before : Signature → Signature → Bool
 signature_before g h =
-    if comes_before g.path h.path then true else if comes_before h.path g.path then false else comes_before g.shape h.shape
+    if comes_before g.path h.path then true else if comes_before h.path g.path then false else comes_before
+    g.shape h.shape
 
 abbrev pub are_ascending : List Signature → Bool
 are_ascending [] = true
@@ -77,7 +80,8 @@ pub record AreAllTests (t : Tables) (p : Pair) (ws : List World) : Type 0 where
 pub record TooManyTests (t : Tables) (p : Pair) (most : ℕ) : Type 0 where
   pub worlds : List World
   pub distinct : AreDistinct (map (signature_of t p) worlds)
-  pub are : (i : ℕ) (d : World) → i < length worlds → IsWorldOf t p (get_or worlds i d) × Commutes t p (get_or worlds i d)
+  pub are : (i : ℕ) (d : World) → i < length worlds → IsWorldOf t p (get_or worlds i d)
+      × Commutes t p (get_or worlds i d)
   pub many : most < length worlds
 
 -- the tests of a pair, for a limit on paths and one on tests

@@ -5,8 +5,9 @@ ghost use Rattle.cm_model.specs.Tables.{Tables};
 ghost use Rattle.cm_eval.specs.Compiled.{IsCodeOf};
 ghost use Rattle.cm_eval.specs.Run.{evaluation_of};
 ghost use Rattle.cm_eval.specs.Ended.{touched_of};
-ghost use Rattle.cm_world.specs.Order.{Invocation, invocation, run_of_order, second_ended, call_a, call_b, ba_ended, both_orders, nothing_touched};
-ghost use Rattle.cm_world.specs.Ran.{order_end, both_end};
+ghost use Rattle.cm_world.specs.Order.{Invocation, invocation, run_of_order, second_ended, call_a, call_b, ba_ended};
+ghost use Rattle.cm_world.specs.Order.{both_orders, nothing_touched};
+ghost use Rattle.cm_world.specs.inner.Ran.{order_end, both_end};
 
 use crate::World;
 use cm_eval::{Args, Code, Log, Outcome, State, run_call_by};

@@ -7,7 +7,7 @@ ghost use Rattle.cm_eval.specs.Comparison.{variant};
 ghost use Rattle.cm_eval.specs.Compiled.{IsCodeOf};
 ghost use Rattle.cm_world.specs.World.{IsWorldOf};
 ghost use Rattle.cm_world.specs.Path.{path_of_world, last_comparison, cells_inspected, cell_inspected, variants_logged};
-ghost use Rattle.cm_world.specs.Ran.{Inspection, Inspects, InspectsAll, AreDeclared};
+ghost use Rattle.cm_world.specs.inner.Ran.{Inspection, Inspects, InspectsAll, AreDeclared};
 
 use crate::World;
 use crate::order::{BothOrders, Outcomes, run_both};

@@ -3,7 +3,7 @@
 ghost use Rattle.std.specs.Prelude.{◌≡◌, ◌↔◌, IsTrue, length, slice_get};
 ghost use Rattle.cm_world.specs.World.{is_cell, fits_key};
 ghost use Rattle.cm_world.specs.Commuting.{SameState};
-ghost use Rattle.cm_world.specs.Ran.{Agree, AllAgree};
+ghost use Rattle.cm_world.specs.inner.Ran.{Agree, AllAgree};
 
 use cm_eval::{CellName, State};
 use cm_model::{Model, Ty};

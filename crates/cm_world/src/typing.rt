@@ -4,7 +4,8 @@ ghost use Rattle.std.specs.Prelude.{◌≡◌, ◌↔◌, IsTrue, map, slice_get
 ghost use Rattle.std.specs.List.{list_all};
 ghost use Rattle.cm_value.specs.Membership.{is_value_of, are_values_of};
 ghost use Rattle.cm_eval.specs.State.{exception_of};
-ghost use Rattle.cm_world.specs.World.{IsWorldOf, IsStateOf, are_arguments, is_exception, is_value_in, are_apart, is_there};
+ghost use Rattle.cm_world.specs.World.{IsWorldOf, IsStateOf, are_arguments, is_exception, is_value_in, are_apart};
+ghost use Rattle.cm_world.specs.World.{is_there};
 
 use crate::World;
 use crate::states::is_cell;

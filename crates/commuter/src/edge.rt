@@ -1,6 +1,7 @@
 //! The machine's files and streams.
 
-ghost use Rattle.std.specs.Prelude.{◌≡◌, ◌↔◌, ◌≤◌, ◌+◌, ◌-◌, ◌^◌, ℕ, List, [], min, string_bytes, IsTrue, IfSome, IsSomeAnd, IfOk, IsOk, OnErr, None, is_ok, length, if◌then◌else◌};
+ghost use Rattle.std.specs.Prelude.{◌≡◌, ◌↔◌, ◌≤◌, ◌+◌, ◌-◌, ◌^◌, ℕ, List, [], min, string_bytes, IsTrue, IfSome};
+ghost use Rattle.std.specs.Prelude.{IsSomeAnd, IfOk, IsOk, OnErr, None, is_ok, length, if◌then◌else◌};
 ghost use Rattle.std.specs.declared.option.Option.{Option};
 ghost use Rattle.cm_io.specs.Causes.{Rose, one_more};
 ghost use Rattle.cm_io.specs.Shelf.{Fetches, NoneFalls, SameFiles};

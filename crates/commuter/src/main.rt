@@ -11,7 +11,8 @@ use std::env;
 use std::io::ErrorKind;
 use std::process::ExitCode;
 
-// The words of the command line, without the program's name. Words that are not text are no command, so none are passed on.
+// The words of the command line, without the program's name. Words that are not text are no command, so none are passed
+// on.
 fn words(rt: &HostRuntime) -> Result<Vec<String>, NoMemory> {
     let mut words = Vec::new(rt.alloc());
     match env::args(rt) {

@@ -17,7 +17,8 @@ use Rattle.cm_eval.specs.Script.{Writes}
 use Rattle.cm_eval.specs.Comparison.{variant, or_stop, fields_compared, comparison}
 use Rattle.cm_eval.specs.State.{Store, Touched}
 use Rattle.cm_eval.specs.Evaluation.{Doing, invariant_of}
-use Rattle.cm_eval.specs.Run.{Trace, Blocked, Logs, End, Ended, Stopped, logged, run, touch_of, added, checked, cells_compared}
+use Rattle.cm_eval.specs.Run.{Trace, Blocked, Logs, End, Ended, Stopped, logged, run, touch_of, added, checked}
+use Rattle.cm_eval.specs.Run.{cells_compared}
 use Rattle.cm_eval.specs.Ended.{touched_of, stopped}
 use Rattle.cm_eval.specs.Compiled.{invariant_code_of}
 
@@ -44,20 +45,23 @@ ComparesAll vs ws r log after = (t : Touched) (k : Bool → Trace) →
 -- the same of two numbers of variants
 abbrev pub ComparesTags : ℕ → ℕ → Option Bool → List ℕ → List ℕ → Type 0
 ComparesTags m n r log after = (t : Touched) (k : Bool → Trace) →
-    logged log (or_stop (Blocked t) (variant m) (λ l. or_stop (Blocked t) (variant n) (λ r. Logs t l (Logs t r (k (l == r))))))
+    logged log (or_stop (Blocked t) (variant m) (λ l. or_stop (Blocked t) (variant n)
+    (λ r. Logs t l (Logs t r (k (l == r))))))
     ≡ ended_by r (λ b. logged after (k b)) (Stopped t after)
 
 -- something was decided in m, or the run was blocked in it; the state and the cells stay
 pub record Decided {X : Type 0} (m : (X → Doing) → Doing) (o : Option X) (log after : List ℕ) : Type 0 where
   pub on : (ints : List IntDecl) (states : List StateDecl) (s : Store) (t : Touched) (k : X → Doing)
-      → logged log (run ints states s t (m k)) ≡ ended_by o (λ x. logged after (run ints states s t (k x))) (Stopped t after)
+      → logged log (run ints states s t (m k)) ≡ ended_by o (λ x. logged after (run ints states s t (k x)))
+      (Stopped t after)
 
 -- how a run ends that is at a script, with this state and this log
 abbrev pub goes_on : Tables → Store → Log → Doing → End
 goes_on t s l d = logged l.steps (run t.ints t.states s (touched_of l) d)
 
 -- something came out of m, or the run was blocked in it
-pub record Gives {X : Type 0} (t : Tables) (m : (X → Doing) → Doing) (o : Option X) (s : Store) (l after : Log) : Type 0 where
+pub record Gives {X : Type 0} (t : Tables) (m : (X → Doing) → Doing) (o : Option X) (s : Store) (l after : Log) : Type
+    0 where
   pub on : (k : X → Doing) → goes_on t s l (m k) ≡ ended_by o (λ x. goes_on t s after (k x)) (stopped after)
 
 -- how a run ends after a turn of the machine, by what came of it
@@ -112,7 +116,8 @@ found_by found.Blocked k fresh blocked = blocked
 
 abbrev pub Searches : List CellName → ℕ → CellName → Found → List ℕ → List ℕ → Type 0
 Searches cells i c f log after = (t : Touched) (k : ℕ → Trace) (fresh : Trace) →
-    logged log (touch_of cells i c t k fresh) ≡ found_by f (λ n. logged after (k n)) (logged after fresh) (Stopped t after)
+    logged log (touch_of cells i c t k fresh) ≡ found_by f (λ n. logged after (k n)) (logged after fresh)
+    (Stopped t after)
 
 -- the same of one cell
 abbrev pub ComparesCells : CellName → CellName → Option Bool → List ℕ → List ℕ → Type 0
@@ -121,4 +126,5 @@ ComparesCells c d r log after = (t : Touched) (k : Bool → Trace) →
 
 -- what came of a write: whether the run goes on
 abbrev pub Puts : Tables → CellName → Value → Bool → Store → Log → Store → Log → Type 0
-Puts t c v b s l u after = (d : Doing) → goes_on t s l (Writes c v d) ≡ (if b then goes_on t u after d else stopped after)
+Puts t c v b s l u after = (d : Doing)
+    → goes_on t s l (Writes c v d) ≡ (if b then goes_on t u after d else stopped after)

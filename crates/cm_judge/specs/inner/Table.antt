@@ -1,5 +1,6 @@
 -- The table of a judge: where it may have a line, and what its records keep as they are moved and put together.
-use Rattle.std.specs.Prelude.{◌≡◌, ◌≢◌, ◌↔◌, ℕ, ◌+◌, ◌-◌, ◌*◌, ◌/◌, ◌%◌, ◌^◌, ◌<◌, ◌≤◌, ◌⊎◌, ◌++◌, [], ◌∷◌, All, Bool, true, List, Contains, length, slice_index_or, min}
+use Rattle.std.specs.Prelude.{◌≡◌, ◌≢◌, ◌↔◌, ℕ, ◌+◌, ◌-◌, ◌*◌, ◌/◌, ◌%◌, ◌^◌, ◌<◌, ◌≤◌, ◌⊎◌, ◌++◌, [], ◌∷◌, All, Bool}
+use Rattle.std.specs.Prelude.{true, List, Contains, length, slice_index_or, min}
 use Rattle.cm_mtrace.specs.declared.item.Entry.{Entry}
 use Rattle.cm_mtrace.specs.Lines.{Covers}
 use Rattle.cm_mtrace.specs.declared.item.Kind.{Kind}

@@ -1,5 +1,6 @@
 use Rattle.std.proofs.Common.{◌≡◌, arith, sym, subst, take}
-use Rattle.cm_ctx.proofs.Adding.{MoreNumbers, at_item, numbers_start, numbers_more, take_all, same_end, same_low, same_high}
+use Rattle.cm_ctx.proofs.Adding.{MoreNumbers, at_item, numbers_start, numbers_more, take_all, same_end, same_low}
+use Rattle.cm_ctx.proofs.Adding.{same_high}
 use Rattle.cm_ctx.proofs.grown.with_numbers.Goals as goal
 
 pub fresh-requires-clause-low : goal.fresh-requires-clause-low
@@ -24,7 +25,8 @@ pub parts-preserved : goal.parts-preserved
 parts-preserved c =
     let at = at_item c.args.parts.now c.parts.part-index c.part-item.result (omega arith) c.part-item.is in
     let r = c.requires c.parts.part-index c.part-item.result at in
-    numbers_more c.args.bounds.now c.parts.grown c.fresh.new.self c.args.parts.now c.parts.part-index c.part-item.result at c.parts.invariant c.in_ok-fresh.ensures.count
+    numbers_more c.args.bounds.now c.parts.grown c.fresh.new.self c.args.parts.now c.parts.part-index
+    c.part-item.result at c.parts.invariant c.in_ok-fresh.ensures.count
     (rw (same_low _ r, same_high _ r) at c.in_ok-fresh.ensures.kept)
 
 pub returns-clause-kept : goal.returns-clause-kept

@@ -22,7 +22,8 @@ make_fields-fields-preserved t c =
     (c.in_ok-inner.ensures)
     (rw (c.index-fields-i.is) c.in_ok-term.ensures) in
     rw (c.in_ok-push.ensures.ok) (going_step m.root c.args.path.now m.from
-    (maker_of m c.args.records.now) c.args.fields.now c.args.to.now c.fields.to c.make.new.to c.fields.i c.index-fields-i.result
+    (maker_of m c.args.records.now) c.args.fields.now c.args.to.now c.fields.to c.make.new.to c.fields.i
+    c.index-fields-i.result
     c.fields.terms c.in_ok-term.term (c.index-fields-i.result).ty (omega arith)
     (ap (λ (p : Part). p.ty) c.index-fields-i.is) c.fields.invariant added)
 
@@ -44,6 +45,7 @@ pub make_record-returns : goal.make_record-returns
 make_record-returns t c =
     let m = c.args.making.now in
     IfOk-weaker c.record_of-2.result _ _
-    (λ u is. adds_record m.ints.now m.enums.now c.args.records.now c.args.rec c.index-records-index.result c.from-index.result _ c.args.to.now c.make_fields.new.to u c.in_ok-terms.terms c.as_slice-fields.result.now
+    (λ u is. adds_record m.ints.now m.enums.now c.args.records.now c.args.rec c.index-records-index.result
+    c.from-index.result _ c.args.to.now c.make_fields.new.to u c.in_ok-terms.terms c.as_slice-fields.result.now
     (omega arith) c.from-index.ensures c.as_slice-fields.ensures is c.in_ok-terms.ensures)
     c.record_of-2.ensures

@@ -18,7 +18,8 @@ pub pieces-preserved : goal.pieces-preserved
 pieces-preserved c =
     let at = at_item c.args.pieces.now c.pieces.piece-index c.piece-item.result (omega arith) c.piece-item.is in
     let size = c.count-size.ensures ∙ ap (λ (p : Piece). length (syms_in c.args.kind p)) c.get.ensures.value in
-    sym (further c.args.kind c.args.pieces.now c.pieces.piece-index c.pieces.left c.count-size.result c.piece-item.result at size (let le = c.if-left-size.false in omega arith)) ∙ c.pieces.invariant
+    sym (further c.args.kind c.args.pieces.now c.pieces.piece-index c.pieces.left c.count-size.result
+    c.piece-item.result at size (let le = c.if-left-size.false in omega arith)) ∙ c.pieces.invariant
 
 pub unreachable-requires : goal.unreachable-requires
 unreachable-requires c =

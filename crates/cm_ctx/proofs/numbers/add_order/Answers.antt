@@ -2,7 +2,8 @@ use Rattle.std.proofs.Common.{◌≡◌, ◌≢◌, ℕ, ℤ, arith, sym, ap, �
 use Rattle.std.proofs.lemmas.Bool.Decides.{nat_tests}
 use Rattle.cm_term.specs.Atoms.{num_under}
 use Rattle.cm_term.specs.Questions.{order_outcome}
-use Rattle.cm_ctx.proofs.Outcomes.{less_asked, equal_asked, greater_asked, numbers_may, numbers_kept, passed, order_known, last_of_three, outcome_is}
+use Rattle.cm_ctx.proofs.Outcomes.{less_asked, equal_asked, greater_asked, numbers_may, numbers_kept, passed}
+use Rattle.cm_ctx.proofs.Outcomes.{order_known, last_of_three, outcome_is}
 use Rattle.cm_ctx.proofs.numbers.add_order.Goals as goal
 
 pub add_lt-requires-clause-may : goal.add_lt-requires-clause-may
@@ -38,7 +39,8 @@ returns-then-outcome-eq1-clause-kept c =
 pub add_gt-requires-clause-may : goal.add_gt-requires-clause-may
 add_gt-requires-clause-may c =
     let e = last_of_three c.args.outcome (order_known (num_under c.requires.may.0 c.args.left)
-    (num_under c.requires.may.0 c.args.right) c.args.outcome c.requires.may.2) c.if-outcome-eq0.false c.if-outcome-eq1.false in
+    (num_under c.requires.may.0 c.args.right) c.args.outcome c.requires.may.2) c.if-outcome-eq0.false
+    c.if-outcome-eq1.false in
     numbers_may c.args.bounds.now _ (λ n. order_outcome n c.args.left c.args.right ≡ c.args.outcome)
     (λ n z. outcome_is e
     (greater_asked n z c.args.left c.args.right _ _ _ c.variable-x.ensures c.variable-y.ensures
@@ -47,7 +49,8 @@ add_gt-requires-clause-may c =
 pub returns-else-outcome-eq1-clause-kept : goal.returns-else-outcome-eq1-clause-kept
 returns-else-outcome-eq1-clause-kept c =
     let e = last_of_three c.args.outcome (order_known (num_under c.requires.may.0 c.args.left)
-    (num_under c.requires.may.0 c.args.right) c.args.outcome c.requires.may.2) c.if-outcome-eq0.false c.if-outcome-eq1.false in
+    (num_under c.requires.may.0 c.args.right) c.args.outcome c.requires.may.2) c.if-outcome-eq0.false
+    c.if-outcome-eq1.false in
     numbers_kept c.args.bounds.now c.add_gt.new.self _
     (λ n. order_outcome n c.args.left c.args.right ≡ c.args.outcome)
     (λ n z. outcome_is e

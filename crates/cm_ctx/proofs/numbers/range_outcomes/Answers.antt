@@ -8,7 +8,8 @@ returns c = λ i.
     let x = c.variable-x.result.0 in
     let low = c.may-low.ensures in
     let high = c.may-high.ensures in
-    let f = range_exact c.args.bounds.now c.args.of c.variable-x.result.0 c.args.lo c.args.hi _ _ c.may-low.result.lt c.either.result c.either-2.result c.both-within.result c.may-high.result.gt
+    let f = range_exact c.args.bounds.now c.args.of c.variable-x.result.0 c.args.lo c.args.hi _ _ c.may-low.result.lt
+    c.either.result c.either-2.result c.both-within.result c.may-high.result.gt
     c.requires.order c.variable-x.ensures
     (passed_less c.gap.result _ _ c.requires.lo c.gap.ensures.value c.gap.ensures.low c.gap.ensures.high)
     (passed_less c.gap-2.result _ _ c.requires.hi c.gap-2.ensures.value c.gap-2.ensures.low c.gap-2.ensures.high)

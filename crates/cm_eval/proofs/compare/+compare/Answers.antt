@@ -5,14 +5,19 @@ use Rattle.cm_eval.proofs.compare.+compare.Goals as goal
 -- src/compare.rt:70:13
 pub compare_all-returns-then-i-right : goal.compare_all-returns-then-i-right
 compare_all-returns-then-i-right t c =
-    record { compares = short c.args.left.now c.args.right.now c.loop-i.i c.loop-i.steps c.args.steps.now c.loop-i-test.true c.if-i-right.true c.loop-i.invariant }
+    record {
+      compares = short c.args.left.now c.args.right.now c.loop-i.i c.loop-i.steps c.args.steps.now
+          c.loop-i-test.true c.if-i-right.true c.loop-i.invariant;
+    }
 
 -- src/compare.rt:74:28
 pub compare_all-returns-in-Some-false : goal.compare_all-returns-in-Some-false
 compare_all-returns-in-Some-false t c =
     record {
-      compares = out c.args.left.now c.args.right.now c.loop-i.i c.index-left-i.result c.index-right-i.result c.loop-i-test.true (omega (arith, c.if-i-right.false))
-          c.index-left-i.is c.index-right-i.is c.in_ok-compare.field-0 c.loop-i.steps c.compare.new.steps c.args.steps.now c.loop-i.invariant c.in_ok-compare.ensures.compares
+      compares = out c.args.left.now c.args.right.now c.loop-i.i c.index-left-i.result c.index-right-i.result
+          c.loop-i-test.true (omega (arith, c.if-i-right.false))
+          c.index-left-i.is c.index-right-i.is c.in_ok-compare.field-0 c.loop-i.steps c.compare.new.steps
+          c.args.steps.now c.loop-i.invariant c.in_ok-compare.ensures.compares
           (c.in-Some-false.is ∙ ap Some c.in-Some-false.field-0-test);
     }
 
@@ -20,16 +25,20 @@ compare_all-returns-in-Some-false t c =
 pub compare_all-returns-in-None : goal.compare_all-returns-in-None
 compare_all-returns-in-None t c =
     record {
-      compares = stop c.args.left.now c.args.right.now c.loop-i.i c.index-left-i.result c.index-right-i.result c.loop-i-test.true (omega (arith, c.if-i-right.false))
-          c.index-left-i.is c.index-right-i.is c.in_ok-compare.field-0 c.loop-i.steps c.compare.new.steps c.args.steps.now c.loop-i.invariant c.in_ok-compare.ensures.compares
+      compares = stop c.args.left.now c.args.right.now c.loop-i.i c.index-left-i.result c.index-right-i.result
+          c.loop-i-test.true (omega (arith, c.if-i-right.false))
+          c.index-left-i.is c.index-right-i.is c.in_ok-compare.field-0 c.loop-i.steps c.compare.new.steps
+          c.args.steps.now c.loop-i.invariant c.in_ok-compare.ensures.compares
           c.in-None.is;
     }
 
 -- src/compare.rt:68:5
 pub compare_all-loop-i-preserved : goal.compare_all-loop-i-preserved
 compare_all-loop-i-preserved t c =
-    on c.args.left.now c.args.right.now c.loop-i.i c.index-left-i.result c.index-right-i.result c.loop-i-test.true (omega (arith, c.if-i-right.false))
-    c.index-left-i.is c.index-right-i.is c.in_ok-compare.field-0 c.loop-i.steps c.compare.new.steps c.args.steps.now c.loop-i.invariant c.in_ok-compare.ensures.compares
+    on c.args.left.now c.args.right.now c.loop-i.i c.index-left-i.result c.index-right-i.result c.loop-i-test.true
+    (omega (arith, c.if-i-right.false))
+    c.index-left-i.is c.index-right-i.is c.in_ok-compare.field-0 c.loop-i.steps c.compare.new.steps c.args.steps.now
+    c.loop-i.invariant c.in_ok-compare.ensures.compares
     (c.in-Some-true.is ∙ ap Some c.in-Some-true.field-0-test)
 
 -- src/compare.rt:79:9

@@ -9,5 +9,7 @@ use Rattle.cm_eval.proofs.drive.compare_on.Goals as goal
 
 pub returns-in-Some-clause-means : goal.returns-in-Some-clause-means
 returns-in-Some-clause-means c = λ codes.
-    decided_turn (compares c.args.both.0 c.args.both.1) c.in_ok-b.field-0 c.in-Some.b (told Value Operand Doing values codes c.args.m.now c.args.wanted) _ _
-    c.args.steps.now c.compare_operands.new.steps c.in_ok-b.ensures.decided c.in-Some.is (c.in_ok-r-in-Some.ensures.means codes c.compare_operands.new.steps)
+    decided_turn (compares c.args.both.0 c.args.both.1) c.in_ok-b.field-0 c.in-Some.b
+    (told Value Operand Doing values codes c.args.m.now c.args.wanted) _ _
+    c.args.steps.now c.compare_operands.new.steps c.in_ok-b.ensures.decided c.in-Some.is
+    (c.in_ok-r-in-Some.ensures.means codes c.compare_operands.new.steps)

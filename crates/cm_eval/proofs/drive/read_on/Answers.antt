@@ -12,12 +12,14 @@ use Rattle.cm_eval.proofs.drive.read_on.Goals as goal
 pub returns-in_ok-hand-in-Some-clause-means : goal.returns-in_ok-hand-in-Some-clause-means
 returns-in_ok-hand-in-Some-clause-means c = λ t codes is.
     (c.in_ok-v.ensures.gives t is).on (handed Value Operand Doing values codes c.args.m.now)
-    ∙ ap (λ o. ended_by o (λ v. goes_on t c.args.state.now c.read.new.log (handed Value Operand Doing values codes c.args.m.now v))
+    ∙ ap (λ o. ended_by o (λ v. goes_on t c.args.state.now c.read.new.log (handed Value Operand Doing
+    values codes c.args.m.now v))
     (stopped c.read.new.log)) c.in-Some.is
     ∙ ap (goes_on t c.args.state.now c.read.new.log) (c.in_ok-hand-in-Some.ensures.means codes)
 
 pub returns-in-None-clause-means : goal.returns-in-None-clause-means
 returns-in-None-clause-means c = λ t codes is.
     (c.in_ok-v.ensures.gives t is).on (handed Value Operand Doing values codes c.args.m.now)
-    ∙ ap (λ o. ended_by o (λ v. goes_on t c.args.state.now c.read.new.log (handed Value Operand Doing values codes c.args.m.now v))
+    ∙ ap (λ o. ended_by o (λ v. goes_on t c.args.state.now c.read.new.log (handed Value Operand Doing
+    values codes c.args.m.now v))
     (stopped c.read.new.log)) c.in-None.is

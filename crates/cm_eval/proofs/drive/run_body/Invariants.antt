@@ -16,7 +16,8 @@ use Rattle.cm_eval.proofs.drive.run_body.Given as goal
 abbrev pub invariant-turns : goal.invariant-turns
 invariant-turns l = (t : Tables) → IsCodeOf t l.code →
     goes_on t l.fn.state l.fn.log
-    (code_meaning Value Operand Doing values (codes_from Value Operand Doing values [] l.code.funs) l.body l.fn.args Replies)
+    (code_meaning Value Operand Doing values (codes_from Value Operand Doing values [] l.code.funs) l.body
+    l.fn.args Replies)
     ≡ goes_on t l.state l.log (script Value Operand Doing values (with_body l.code.funs l.body) l.m)
 
 abbrev pub decreases-turns : goal.decreases-turns

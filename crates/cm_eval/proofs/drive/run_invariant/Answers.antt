@@ -19,7 +19,8 @@ returns-in-Ended c = record {
     ap (λ d. logged c.args.steps.now (run ints [] s t d)) (invariant_by_code ints e c.args.value.now c.args.code.now is)
         ∙ c.turns.invariant ints s t ∙ c.in_ok-turn_invariant.ensures.means ints s t
         ∙ ap (λ r. turned_by r s t c.turn_invariant.new.steps (logged c.turn_invariant.new.steps
-        (run ints [] s t (script Value Operand Doing values (with_body [] c.args.code.now) c.turn_invariant.new.m)))) c.in-Ended.is,
+        (run ints [] s t (script Value Operand Doing values (with_body [] c.args.code.now) c.turn_invariant.new.m))))
+        c.in-Ended.is,
   );
 }
 
@@ -30,6 +31,7 @@ returns-in-Blocked c = record {
     ap (λ d. logged c.args.steps.now (run ints [] s t d)) (invariant_by_code ints e c.args.value.now c.args.code.now is)
         ∙ c.turns.invariant ints s t ∙ c.in_ok-turn_invariant.ensures.means ints s t
         ∙ ap (λ r. turned_by r s t c.turn_invariant.new.steps (logged c.turn_invariant.new.steps
-        (run ints [] s t (script Value Operand Doing values (with_body [] c.args.code.now) c.turn_invariant.new.m)))) c.in-Blocked.is,
+        (run ints [] s t (script Value Operand Doing values (with_body [] c.args.code.now) c.turn_invariant.new.m))))
+        c.in-Blocked.is,
   );
 }

@@ -13,19 +13,25 @@ use Rattle.cm_eval.proofs.drive.turn.Goals as goal
 
 pub returns-in_ok-r-in-Inspects-clause-means : goal.returns-in_ok-r-in-Inspects-clause-means
 returns-in_ok-r-in-Inspects-clause-means c = λ t is.
-    turned_in t c.args.state.now c.args.log.now c.args.code.now.funs c.as_slice.result.now c.args.body.now c.in_ok-o.field-0 _ c.args.m.now c.go.new.m _ _ _ c.as_slice.ensures
-    c.in_ok-o.ensures.means c.in-Inspects.is (c.in_ok-r-in-Inspects.ensures.means (with_body c.args.code.now.funs c.args.body.now))
+    turned_in t c.args.state.now c.args.log.now c.args.code.now.funs c.as_slice.result.now c.args.body.now
+    c.in_ok-o.field-0 _ c.args.m.now c.go.new.m _ _ _ c.as_slice.ensures
+    c.in_ok-o.ensures.means c.in-Inspects.is (c.in_ok-r-in-Inspects.ensures.means
+    (with_body c.args.code.now.funs c.args.body.now))
 
 pub returns-in_ok-r-in-Orders-clause-means : goal.returns-in_ok-r-in-Orders-clause-means
 returns-in_ok-r-in-Orders-clause-means c = λ t is.
-    turned_in t c.args.state.now c.args.log.now c.args.code.now.funs c.as_slice.result.now c.args.body.now c.in_ok-o.field-0 _ c.args.m.now c.go.new.m _ _ _ c.as_slice.ensures
-    c.in_ok-o.ensures.means c.in-Orders.is (c.in_ok-r-in-Orders.ensures.means (with_body c.args.code.now.funs c.args.body.now))
+    turned_in t c.args.state.now c.args.log.now c.args.code.now.funs c.as_slice.result.now c.args.body.now
+    c.in_ok-o.field-0 _ c.args.m.now c.go.new.m _ _ _ c.as_slice.ensures
+    c.in_ok-o.ensures.means c.in-Orders.is (c.in_ok-r-in-Orders.ensures.means
+    (with_body c.args.code.now.funs c.args.body.now))
 
 pub returns-in_ok-r-in-Into-clause-means : goal.returns-in_ok-r-in-Into-clause-means
 returns-in_ok-r-in-Into-clause-means c = λ t is.
     let codes : List (List Instr) = with_body c.args.code.now.funs c.args.body.now in
-    let turns : Turns (event_of Value Operand Doing values codes (event.Into c.in-Into.lo c.in-Into.hi c.in-Into.of) c.go.new.m) c.in_ok-r-in-Into.r
+    let turns : Turns (event_of Value Operand Doing values codes (event.Into c.in-Into.lo c.in-Into.hi c.in-Into.of)
+    c.go.new.m) c.in_ok-r-in-Into.r
     (script Value Operand Doing values codes c.convert_on.new.m) c.args.log.now.steps c.convert_on.new.steps =
     search (rules) in
-    turned_in t c.args.state.now c.args.log.now c.args.code.now.funs c.as_slice.result.now c.args.body.now c.in_ok-o.field-0 _ c.args.m.now c.go.new.m _ _ _ c.as_slice.ensures
+    turned_in t c.args.state.now c.args.log.now c.args.code.now.funs c.as_slice.result.now c.args.body.now
+    c.in_ok-o.field-0 _ c.args.m.now c.go.new.m _ _ _ c.as_slice.ensures
     c.in_ok-o.ensures.means c.in-Into.is turns

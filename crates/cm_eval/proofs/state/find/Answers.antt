@@ -11,7 +11,8 @@ pub returns-then-is_cell : goal.returns-then-is_cell
 returns-then-is_cell c =
     let cell : CellName = named c.args.state (option_copied c.args.key) in
     found c.args.exceptions.now cell c.loop-i.i c.index-exceptions-i.result c.loop-i-test.true c.loop-i.invariant
-    (subst (λ (e : Except). same_cell e.cell cell ≡ true) c.index-exceptions-i.is (sym c.is_cell.ensures ∙ c.if-is_cell.true))
+    (subst (λ (e : Except). same_cell e.cell cell ≡ true) c.index-exceptions-i.is (sym c.is_cell.ensures
+    ∙ c.if-is_cell.true))
 
 -- src/state.rt:134:1
 pub returns : goal.returns

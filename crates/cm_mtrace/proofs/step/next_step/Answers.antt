@@ -1,5 +1,5 @@
 use Rattle.std.proofs.Common.{arith, subst, sym}
-use Rattle.cm_mtrace.specs.Reading.{SectionSteps, Steps}
+use Rattle.cm_mtrace.specs.inner.Reading.{SectionSteps, Steps}
 use Rattle.cm_mtrace.proofs.Stepping.{ok_map, section_steps}
 use Rattle.cm_mtrace.proofs.step.next_step.Goals as goal
 
@@ -14,4 +14,5 @@ returns-in-1 c =
     let old = c.args.to.now.items in
     let new = c.section_step.new.to.items in
     ok_map c.section_step.result (SectionSteps text old new) (Steps c.args.before text old new)
-    (λ step s. section_steps c.args.before text old new step (omega (arith, c.in-1.is)) (λ two. absurd (omega (arith, two, c.in-1.is))) s) c.section_step.ensures
+    (λ step s. section_steps c.args.before text old new step (omega (arith, c.in-1.is))
+    (λ two. absurd (omega (arith, two, c.in-1.is))) s) c.section_step.ensures

@@ -16,6 +16,10 @@ entries-preserved c =
       room = omega (arith, inv.room, less);
       shorter = omega (arith, inv.shorter, less);
       goes = λ first all whole old reads.
-          let g = inv.goes first all whole old reads in
-          (g.0 ++ line_of item ∷ [], reads_push first all g.0 c.entries.rest.now (line_of item) c.in-Some.after.now old c.entries.to.items c.push.new.self.items (item ∷ []) c.entries.lines g.1 (item_line item e.0) e.1 (item_gives c.entries.lines item inv.two e.0) c.in_ok-push.ensures.items);
+          let g = inv.goes first all whole old reads in (
+            g.0 ++ line_of item ∷ [],
+            reads_push first all g.0 c.entries.rest.now (line_of item) c.in-Some.after.now
+                old c.entries.to.items c.push.new.self.items (item ∷ []) c.entries.lines g.1 (item_line item e.0)
+                e.1 (item_gives c.entries.lines item inv.two e.0) c.in_ok-push.ensures.items,
+          );
     }

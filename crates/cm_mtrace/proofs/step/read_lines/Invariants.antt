@@ -1,5 +1,5 @@
 use Rattle.std.proofs.Common.{◌+◌, ◌≤◌, List, ℕ, length}
-use Rattle.cm_mtrace.specs.Reading.{Reads}
+use Rattle.cm_mtrace.specs.inner.Reading.{Reads}
 use Rattle.cm_mtrace.proofs.step.read_lines.Given as goal
 
 -- the lines so far were read

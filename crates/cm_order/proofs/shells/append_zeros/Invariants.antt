@@ -1,5 +1,5 @@
 use Rattle.std.proofs.Common.{◌≡◌, ◌+◌, ℕ, length}
-use Rattle.cm_order.specs.Shells.{number_at}
+use Rattle.cm_order.specs.inner.Shells.{number_at}
 use Rattle.cm_order.proofs.shells.append_zeros.Given as goal
 
 abbrev pub invariant-zeros : goal.invariant-zeros

@@ -1,5 +1,5 @@
 use Rattle.std.proofs.Common.{◌≡◌, ◌<◌, ◌+ℤ◌, ℕ}
-use Rattle.cm_order.specs.Shells.{entry, number_at}
+use Rattle.cm_order.specs.inner.Shells.{entry, number_at}
 use Rattle.cm_order.proofs.shells.gather.Given as goal
 
 abbrev pub invariant-lines : goal.invariant-lines

@@ -1,5 +1,5 @@
 use Rattle.std.proofs.Common.{◌≡◌, ℕ}
-use Rattle.cm_order.specs.Shells.{number_at, relaxed}
+use Rattle.cm_order.specs.inner.Shells.{number_at, relaxed}
 use Rattle.cm_order.proofs.shells.relax_run.Given as goal
 
 abbrev pub invariant-run : goal.invariant-run

@@ -6,8 +6,16 @@ use Rattle.cm_samples.proofs.counters.max.Goals as goal
 
 pub new-model-requires : goal.new-model-requires
 unfolding max_tables
-new-model-requires c = record { well_typed = typed c.new-sorts.ensures c.in_ok-ints.ensures.exact c.in_ok-enums.ensures.exact c.new-records.ensures c.in_ok-states.ensures.exact c.new-funs.ensures c.in_ok-calls.ensures.exact max_is_well_typed }
+new-model-requires c = record {
+  well_typed = typed c.new-sorts.ensures c.in_ok-ints.ensures.exact
+      c.in_ok-enums.ensures.exact c.new-records.ensures c.in_ok-states.ensures.exact c.new-funs.ensures
+      c.in_ok-calls.ensures.exact max_is_well_typed;
+}
 
 pub returns : goal.returns
 unfolding max_tables
-returns c = record { tables = c.new-model.ensures.tables ∙ made c.new-sorts.ensures c.in_ok-ints.ensures.exact c.in_ok-enums.ensures.exact c.new-records.ensures c.in_ok-states.ensures.exact c.new-funs.ensures c.in_ok-calls.ensures.exact }
+returns c = record {
+  tables = c.new-model.ensures.tables ∙ made c.new-sorts.ensures c.in_ok-ints.ensures.exact
+      c.in_ok-enums.ensures.exact c.new-records.ensures c.in_ok-states.ensures.exact c.new-funs.ensures
+      c.in_ok-calls.ensures.exact;
+}

@@ -8,5 +8,8 @@ negations-init c = (omega arith, sym (negations-none c.args.e))
 
 pub negations-preserved : goal.negations-preserved
 negations-preserved c =
-    let below = c.negations-test.true in
-    (omega (arith, below), c.in_ok-whole.ensures.exact ∙ ap expr.Not c.negations.invariant.1 ∙ sym (negations-more c.negations.n c.args.e))
+    let below = c.negations-test.true in (
+      omega (arith, below),
+      c.in_ok-whole.ensures.exact ∙ ap expr.Not c.negations.invariant.1
+          ∙ sym (negations-more c.negations.n c.args.e),
+    )

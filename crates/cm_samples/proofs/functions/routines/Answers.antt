@@ -6,8 +6,16 @@ use Rattle.cm_samples.proofs.functions.routines.Goals as goal
 
 pub new-model-requires : goal.new-model-requires
 unfolding routines_tables
-new-model-requires c = record { well_typed = typed c.new-sorts.ensures c.new-ints.ensures c.in_ok-enums.ensures.exact c.new-records.ensures c.in_ok-states.ensures.exact c.in_ok-funs.ensures.exact c.in_ok-calls.ensures.exact routines_is_well_typed }
+new-model-requires c = record {
+  well_typed = typed c.new-sorts.ensures c.new-ints.ensures c.in_ok-enums.ensures.exact
+      c.new-records.ensures c.in_ok-states.ensures.exact c.in_ok-funs.ensures.exact c.in_ok-calls.ensures.exact
+      routines_is_well_typed;
+}
 
 pub returns : goal.returns
 unfolding routines_tables
-returns c = record { tables = c.new-model.ensures.tables ∙ made c.new-sorts.ensures c.new-ints.ensures c.in_ok-enums.ensures.exact c.new-records.ensures c.in_ok-states.ensures.exact c.in_ok-funs.ensures.exact c.in_ok-calls.ensures.exact }
+returns c = record {
+  tables = c.new-model.ensures.tables ∙ made c.new-sorts.ensures c.new-ints.ensures
+      c.in_ok-enums.ensures.exact c.new-records.ensures c.in_ok-states.ensures.exact c.in_ok-funs.ensures.exact
+      c.in_ok-calls.ensures.exact;
+}

@@ -1,4 +1,5 @@
-use Rattle.std.proofs.Common.{◌≡◌, ℕ, ◌==◌, ◌<◌, ◌≤◌, ◌&&◌, Bool, true, false, nat_lt, map, cond, get_or, refl, ap, ◌∙◌, arith}
+use Rattle.std.proofs.Common.{◌≡◌, ℕ, ◌==◌, ◌<◌, ◌≤◌, ◌&&◌, Bool, true, false, nat_lt, map, cond, get_or, refl, ap, ◌∙◌}
+use Rattle.std.proofs.Common.{arith}
 use Rattle.std.proofs.lemmas.List.FromFn.{get_or-map-range_with_len}
 use Rattle.std.proofs.lemmas.Bool.{eqb-true, eq-eqb, lt-ltb}
 use Rattle.std.specs.List.{range_with_len}
@@ -26,8 +27,11 @@ both false false v r h lt = absurd (omega (arith, h, lt))
 
 found : (base b r : ℕ) → base ≤ 16 → r ≡ value_at b → r < base → IsDigit base b × (r ≡ digit_value b)
 found base b r high h lt =
-    let parts = both (nat_lt (digit_value b) 16) (digit_glyph false (digit_value b) == b) (digit_value b) r h (omega (arith, high, lt)) in
-    (record { below = omega (arith, parts.2, lt); lower = eqb-true (digit_glyph false (digit_value b)) b parts.1 }, parts.2)
+    let parts = both (nat_lt (digit_value b) 16) (digit_glyph false (digit_value b) == b) (digit_value b)
+    r h (omega (arith, high, lt)) in (
+      record { below = omega (arith, parts.2, lt); lower = eqb-true (digit_glyph false (digit_value b)) b parts.1 },
+      parts.2,
+    )
 
 one : (s t : Bool) (v r : ℕ) → r ≡ cond (s && t) v 255 → s ≡ true → t ≡ true → r ≡ v
 one true true v r h a b = h
@@ -37,13 +41,17 @@ one false false v r h a b = cc
 
 missing : (base b r : ℕ) → base ≤ 16 → r ≡ value_at b → base ≤ r → IsDigit base b → ⊥
 missing base b r high h le d =
-    let same = one (nat_lt (digit_value b) 16) (digit_glyph false (digit_value b) == b) (digit_value b) r h (lt-ltb (digit_value b) 16 (omega (arith, d.below, high))) (eq-eqb (digit_glyph false (digit_value b)) b d.lower) in
+    let same = one (nat_lt (digit_value b) 16) (digit_glyph false (digit_value b) == b) (digit_value b)
+    r h (lt-ltb (digit_value b) 16 (omega (arith, d.below, high))) (eq-eqb (digit_glyph false (digit_value b))
+    b d.lower) in
     omega (arith, same, d.below, le)
 
 pub returns-then-value-base : goal.returns-then-value-base
 returns-then-value-base c =
-    found c.args.base c.args.byte c.from-value.result c.requires.high (c.from-value.ensures ∙ rw c.from.ensures (read c.args.byte (omega arith))) c.if-value-base.true
+    found c.args.base c.args.byte c.from-value.result c.requires.high (c.from-value.ensures
+    ∙ rw c.from.ensures (read c.args.byte (omega arith))) c.if-value-base.true
 
 pub returns-else-value-base : goal.returns-else-value-base
 returns-else-value-base c =
-    missing c.args.base c.args.byte c.from-value.result c.requires.high (c.from-value.ensures ∙ rw c.from.ensures (read c.args.byte (omega arith))) c.if-value-base.false
+    missing c.args.base c.args.byte c.from-value.result c.requires.high (c.from-value.ensures
+    ∙ rw c.from.ensures (read c.args.byte (omega arith))) c.if-value-base.false

@@ -7,7 +7,8 @@ use Rattle.cm_text.proofs.number.run_at.Goals as goal
 pub loop-i-preserved : goal.loop-i-preserved
 loop-i-preserved c =
     let v = digits_value c.args.base (take c.loop-i.i c.args.text.now) in
-    let more = one_more c.args.base c.args.text.now c.loop-i.i v c.in-Some.d c.loop-i-test.true c.loop-i.invariant.digits refl c.in-Some.ensures.0 c.in-Some.ensures.1 in
+    let more = one_more c.args.base c.args.text.now c.loop-i.i v c.in-Some.d c.loop-i-test.true
+    c.loop-i.invariant.digits refl c.in-Some.ensures.0 c.in-Some.ensures.1 in
     record {
       digits = more.0;
       value =

@@ -29,14 +29,17 @@ pub returns-then-count-longest : goal.returns-then-count-longest
 returns-then-count-longest c =
     let text = c.args.text.now in
     let count = c.run_at-n.result.1 in
-    none_at_long c.args.base c.args.most c.args.longest text count (digits_value c.args.base (take count text)) c.requires.low c.requires.high c.requires.some c.requires.few c.requires.holds c.run_at-n.ensures.run c.if-count-longest.true
+    none_at_long c.args.base c.args.most c.args.longest text count (digits_value c.args.base (take count text))
+    c.requires.low c.requires.high c.requires.some c.requires.few c.requires.holds c.run_at-n.ensures.run
+    c.if-count-longest.true
 
 pub returns-then-not-is_plain : goal.returns-then-not-is_plain
 returns-then-not-is_plain c =
     let text = c.args.text.now in
     let count = c.run_at-n.result.1 in
     let zero = c.if-not-is_plain.ensures in
-    none_at_zero c.args.base c.args.most text count (digits_value c.args.base (take count text)) c.requires.low c.requires.high
+    none_at_zero c.args.base c.args.most text count (digits_value c.args.base (take count text)) c.requires.low
+    c.requires.high
     (room c.args.base c.args.longest c.args.most c.requires.low c.requires.few c.requires.holds)
     c.run_at-n.ensures.run zero.0 zero.1
 
@@ -45,7 +48,8 @@ returns-then-n-most c =
     let text = c.args.text.now in
     let count = c.run_at-n.result.1 in
     let v = digits_value c.args.base (take count text) in
-    let is = exact c.args.base c.args.longest text count c.run_at-n.result.0 v c.requires.low c.requires.fits (omega (arith, c.if-count-longest.false)) c.run_at-n.ensures.run c.run_at-n.ensures.value in
+    let is = exact c.args.base c.args.longest text count c.run_at-n.result.0 v c.requires.low c.requires.fits
+    (omega (arith, c.if-count-longest.false)) c.run_at-n.ensures.run c.run_at-n.ensures.value in
     none_at_above c.args.base c.args.most text count v c.requires.low c.requires.high
     (room c.args.base c.args.longest c.args.most c.requires.low c.requires.few c.requires.holds)
     c.run_at-n.ensures.run (omega (arith, is.0, c.if-n-most.true))
@@ -56,8 +60,15 @@ returns c =
     let count = c.run_at-n.result.1 in
     let v = digits_value c.args.base (take count text) in
     let run = c.run_at-n.ensures.run in
-    let is = exact c.args.base c.args.longest text count c.run_at-n.result.0 v c.requires.low c.requires.fits (omega (arith, c.if-count-longest.false)) run c.run_at-n.ensures.value in
-    let same : IsRun c.args.base text count c.run_at-n.result.0 = subst (λ n. IsRun c.args.base text count n) (sym is.0) run in
-    let fits : c.run_at-n.result.0 < c.args.base ^ 64 = room c.args.base c.args.longest c.run_at-n.result.0 c.requires.low c.requires.few is.1 in
-    rw (between_to_end text count (length text) (omega arith))
-    (run_numeral c.args.base text count c.run_at-n.result.0 c.requires.low c.requires.high fits same (omega (arith, c.if-count-eq0.false)) c.if-not-is_plain.ensures, omega (arith, c.if-n-most.false), run.ends)
+    let is = exact c.args.base c.args.longest text count c.run_at-n.result.0 v c.requires.low c.requires.fits
+    (omega (arith, c.if-count-longest.false)) run c.run_at-n.ensures.value in
+    let same : IsRun c.args.base text count c.run_at-n.result.0 = subst (λ n. IsRun c.args.base text count n)
+    (sym is.0) run in
+    let fits : c.run_at-n.result.0 < c.args.base ^ 64 = room c.args.base c.args.longest c.run_at-n.result.0
+    c.requires.low c.requires.few is.1 in
+    rw (between_to_end text count (length text) (omega arith)) (
+      run_numeral c.args.base text count c.run_at-n.result.0 c.requires.low c.requires.high fits same
+          (omega (arith, c.if-count-eq0.false)) c.if-not-is_plain.ensures,
+      omega (arith, c.if-n-most.false),
+      run.ends,
+    )

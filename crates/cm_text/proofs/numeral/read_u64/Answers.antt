@@ -6,9 +6,12 @@ use Rattle.cm_text.proofs.Fronts.{no_numeral}
 use Rattle.cm_text.proofs.numeral.read_u64.Goals as goal
 
 pub returns-in-None-clause-not_number : goal.returns-in-None-clause-not_number
-returns-in-None-clause-not_number c n within e = c.in-None.ensures n [] within (λ no. no) (e ∙ sym (append-nil (numeral 10 n)))
+returns-in-None-clause-not_number c n within e = c.in-None.ensures n [] within (λ no. no) (e
+    ∙ sym (append-nil (numeral 10 n)))
 
 pub returns-else-is_empty-clause-not_number : goal.returns-else-is_empty-clause-not_number
 returns-else-is_empty-clause-not_number c n within e =
-    let nothing = no_numeral 10 c.in-Some.n n c.in-Some.rest.now (omega arith) (omega arith) (omega (arith, c.ranges.most.fits, c.in-Some.ensures.1)) (omega (arith, c.ranges.most.fits, within)) c.in-Some.ensures.2 (sym c.in-Some.ensures.0 ∙ e) in
+    let nothing = no_numeral 10 c.in-Some.n n c.in-Some.rest.now (omega arith) (omega arith)
+    (omega (arith, c.ranges.most.fits, c.in-Some.ensures.1)) (omega (arith, c.ranges.most.fits, within))
+    c.in-Some.ensures.2 (sym c.in-Some.ensures.0 ∙ e) in
     eqb-false (length c.in-Some.rest.now) 0 (sym c.if-is_empty.ensures) (ap length nothing)

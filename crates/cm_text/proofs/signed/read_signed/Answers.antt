@@ -11,4 +11,5 @@ returns-in-45-clause-not_number c =
     let digits = take (length c.args.text.now - 1) (drop 1 c.args.text.now) in
     let signed : c.args.text.now ≡ 45 ∷ digits = grind (arith, common_steps) in
     let P : List ℕ → Type 0 = λ t. (n : ℤ) → FitsSigned w64 n → t ≢ signed_decimal n in
-    on_err_weaker c.read_below_nought.result (λ none. subst P (sym signed) (behind_sign digits none)) c.read_below_nought.ensures.not_number
+    on_err_weaker c.read_below_nought.result (λ none. subst P (sym signed) (behind_sign digits none))
+    c.read_below_nought.ensures.not_number

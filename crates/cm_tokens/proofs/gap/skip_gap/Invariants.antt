@@ -5,7 +5,8 @@ use Rattle.cm_tokens.proofs.gap.skip_gap.Given as goal
 abbrev pub invariant-gap : goal.invariant-gap
 invariant-gap l = record {
   same : l.cursor.text ≡ l.initial.cursor.text;
-  gap : l.cursor.at + gap_of (drop l.cursor.at l.cursor.text) ≡ l.initial.cursor.at + gap_of (drop l.initial.cursor.at l.initial.cursor.text);
+  gap : l.cursor.at + gap_of (drop l.cursor.at l.cursor.text) ≡ l.initial.cursor.at + gap_of
+      (drop l.initial.cursor.at l.initial.cursor.text);
 }
 
 abbrev pub decreases-gap : goal.decreases-gap

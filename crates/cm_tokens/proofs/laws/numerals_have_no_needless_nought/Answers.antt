@@ -7,5 +7,6 @@ use Rattle.cm_tokens.specs.Spellings.{marks, reserved_words}
 use Rattle.cm_tokens.proofs.laws.numerals_have_no_needless_nought.Goals as goal
 
 pub returns : goal.returns
-unfolding tokens_of tokens_behind tokens_within gap_of first_token word_of number_of mark_of marks reserved_words place_in
+unfolding tokens_of tokens_behind tokens_within gap_of first_token word_of number_of mark_of marks reserved_words
+    place_in
 returns c = refl

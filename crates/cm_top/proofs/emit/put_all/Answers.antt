@@ -2,7 +2,7 @@ use Rattle.std.proofs.Common.{◌∷◌, ◌++◌, [], map, sym, subst}
 use Rattle.std.specs.Io.KnownBytes.{Appends}
 use Rattle.std.proofs.lemmas.List.{append-nil}
 use Rattle.cm_top.specs.Output.{closing, header, joined}
-use Rattle.cm_top.specs.Pieces.{piece_of}
+use Rattle.cm_top.specs.inner.Pieces.{piece_of}
 use Rattle.cm_top.proofs.Parts.{both, front_behind, front_first, front_more, last_piece}
 use Rattle.cm_top.proofs.emit.put_all.Goals as goal
 

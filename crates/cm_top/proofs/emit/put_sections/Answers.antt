@@ -1,7 +1,7 @@
 use Rattle.std.proofs.Common.{arith, ◌++◌, ◌∷◌, ◌+◌, map, take, drop, ap, sym, subst, ◌∙◌}
 use Rattle.std.specs.Io.KnownBytes.{Appends}
 use Rattle.cm_top.specs.Output.{TakesFront, joined}
-use Rattle.cm_top.specs.Pieces.{piece_of}
+use Rattle.cm_top.specs.inner.Pieces.{piece_of}
 use Rattle.cm_top.proofs.Parts.{around, both, front_behind, front_first, one_more}
 use Rattle.cm_top.proofs.emit.put_sections.Goals as goal
 

@@ -1,7 +1,7 @@
 use Rattle.std.proofs.Common.{◌≤◌, map, take}
 use Rattle.std.specs.Io.KnownBytes.{Appends}
 use Rattle.cm_top.specs.Output.{joined}
-use Rattle.cm_top.specs.Pieces.{piece_of}
+use Rattle.cm_top.specs.inner.Pieces.{piece_of}
 use Rattle.cm_top.proofs.emit.put_sections.Given as goal
 
 -- the pieces so far were taken

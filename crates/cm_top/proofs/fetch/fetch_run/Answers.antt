@@ -1,6 +1,6 @@
 use Rattle.std.proofs.Common.{arith, ◌++◌, length, ap, subst, sym, ◌∙◌}
 use Rattle.cm_top.specs.Fetch.{HoldsBytes, HoldsFront}
-use Rattle.cm_top.specs.Run.{HasRead}
+use Rattle.cm_top.specs.inner.Run.{HasRead}
 use Rattle.cm_top.specs.declared.fetch.TheConstants.{LIMIT}
 use Rattle.std.proofs.lemmas.List.{length-append}
 use Rattle.cm_top.proofs.Files.{longer_file, no_bytes, same_length}

@@ -1,7 +1,7 @@
 use Rattle.std.proofs.Common.{◌≡◌, ◌≤◌, ◌-◌, List, ℕ, length}
 use Rattle.cm_io.specs.Shelf.{NoneFalls, SameFiles}
 use Rattle.cm_top.specs.Fetch.{HoldsFront}
-use Rattle.cm_top.specs.Run.{HasRead, count_of}
+use Rattle.cm_top.specs.inner.Run.{HasRead, count_of}
 use Rattle.cm_top.proofs.fetch.fetch_run.Given as goal
 
 -- the run has read the file's front, and no count fell

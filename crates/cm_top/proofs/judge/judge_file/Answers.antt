@@ -1,7 +1,7 @@
 use Rattle.std.proofs.Common.{subst, ap, ◌∙◌, inr}
 use Rattle.std.specs.Io.KnownBytes.{Appends}
 use Rattle.cm_top.specs.Output.{TakesFront, joined, judge_status}
-use Rattle.cm_top.specs.Pieces.{pieces_of}
+use Rattle.cm_top.specs.inner.Pieces.{pieces_of}
 use Rattle.cm_top.proofs.Judgements.{judged_part, judged_whole, lines_of_all}
 use Rattle.cm_top.proofs.judge.judge_file.Goals as goal
 

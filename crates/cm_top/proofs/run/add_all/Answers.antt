@@ -3,7 +3,7 @@ use Rattle.std.proofs.lemmas.List.{nil_from_length}
 use Rattle.std.specs.List.{All}
 use Rattle.std.specs.Slice.Iter.{chunks_rest}
 use Rattle.cm_mtrace.specs.Trace.{IsItem}
-use Rattle.cm_top.specs.Sections.{Have}
+use Rattle.cm_top.specs.inner.Sections.{Have}
 use Rattle.cm_top.proofs.Runs.{all_parts}
 use Rattle.cm_top.proofs.run.add_all.Goals as goal
 

@@ -3,7 +3,7 @@ use Rattle.std.specs.List.{All}
 use Rattle.std.specs.Slice.Iter.{chunks_rest}
 use Rattle.cm_mtrace.specs.Trace.{IsItem, Section, items_of}
 use Rattle.cm_mtrace.specs.declared.Item.{Item}
-use Rattle.cm_top.specs.Sections.{Have}
+use Rattle.cm_top.specs.inner.Sections.{Have}
 use Rattle.cm_top.proofs.run.add_all.Given as goal
 
 -- the sections have the items of the batches so far

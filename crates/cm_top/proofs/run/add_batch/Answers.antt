@@ -1,6 +1,6 @@
 use Rattle.std.proofs.Common.{◌++◌, ◌∷◌, [], take, drop, ap, sym, subst, ◌∙◌, ◌+◌}
 use Rattle.std.proofs.lemmas.List.{take_all}
-use Rattle.cm_top.specs.Sections.{Have}
+use Rattle.cm_top.specs.inner.Sections.{Have}
 use Rattle.cm_top.proofs.Runs.{around, one_more}
 use Rattle.cm_top.proofs.run.add_batch.Goals as goal
 

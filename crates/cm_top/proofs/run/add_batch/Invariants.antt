@@ -1,7 +1,7 @@
 use Rattle.std.proofs.Common.{◌≡◌, ◌++◌, List, take}
 use Rattle.cm_mtrace.specs.Trace.{Section, items_of}
 use Rattle.cm_mtrace.specs.declared.Item.{Item}
-use Rattle.cm_top.specs.Sections.{Have}
+use Rattle.cm_top.specs.inner.Sections.{Have}
 use Rattle.cm_top.proofs.run.add_batch.Given as goal
 
 -- the sections have the items so far

@@ -9,11 +9,14 @@ pub returns-clause-of_the_type : goal.returns-clause-of_the_type
 returns-clause-of_the_type c =
     let model = c.args.model.now in
     let ty = c.args.ty.now in
-    subst (IsValueOf model ty) (sym c.in_ok-value.ensures.exact) (relabel_alike model c.args.by.now c.args.v.now (Some ty) ty ∙ c.requires)
+    subst (IsValueOf model ty) (sym c.in_ok-value.ensures.exact) (relabel_alike model c.args.by.now c.args.v.now
+    (Some ty) ty ∙ c.requires)
 
 pub returns-clause-back : goal.returns-clause-back
 returns-clause-back c =
-    ap (relabelled c.args.model.now c.args.by.now c.args.ty.now) c.in_ok-value.ensures.exact ∙ relabel_back c.args.model.now c.args.by.now c.args.v.now (Some c.args.ty.now)
+    ap (relabelled c.args.model.now c.args.by.now c.args.ty.now) c.in_ok-value.ensures.exact
+    ∙ relabel_back c.args.model.now c.args.by.now c.args.v.now (Some c.args.ty.now)
 
 pub returns-clause-untouched : goal.returns-clause-untouched
-returns-clause-untouched c = λ lacks. c.in_ok-value.ensures.exact ∙ lacks_both c.args.model.now c.args.by.now c.args.ty.now c.args.v.now lacks
+returns-clause-untouched c = λ lacks. c.in_ok-value.ensures.exact ∙ lacks_both c.args.model.now c.args.by.now
+    c.args.ty.now c.args.v.now lacks

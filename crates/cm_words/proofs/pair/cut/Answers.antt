@@ -17,5 +17,6 @@ pub returns-in-None : goal.returns-in-None
 returns-in-None c = record {
   around = tt;
   only = λ first second name is.
-      split_after 44 c.args.text.now first second None c.in-None.ensures.cases (omega arith) is (name_lacks_comma first name);
+      split_after 44 c.args.text.now first second None c.in-None.ensures.cases (omega arith) is
+      (name_lacks_comma first name);
 }

@@ -1,6 +1,6 @@
 use Rattle.std.proofs.Common.{ℕ, ◌<◌, get_or}
 use Rattle.cm_eval.specs.declared.state.Except.{Except}
-use Rattle.cm_world.specs.Ran.{Agree}
+use Rattle.cm_world.specs.inner.Ran.{Agree}
 use Rattle.cm_world.proofs.states.agree_at.Given as goal
 
 abbrev pub invariant-exceptions : goal.invariant-exceptions

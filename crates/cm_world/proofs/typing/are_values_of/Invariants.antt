@@ -5,4 +5,5 @@ use Rattle.cm_world.proofs.typing.are_values_of.Given as goal
 -- what is left to test decides
 abbrev pub invariant-loop-i : goal.invariant-loop-i
 invariant-loop-i l =
-    are_values_of l.model (map (λ p. p.ty) (drop l.i l.params)) (drop l.i l.values) ≡ are_values_of l.fn.model (map (λ p. p.ty) l.fn.params) l.fn.values
+    are_values_of l.model (map (λ p. p.ty) (drop l.i l.params)) (drop l.i l.values) ≡ are_values_of l.fn.model
+    (map (λ p. p.ty) l.fn.params) l.fn.values

@@ -1,4 +1,5 @@
-use Rattle.std.proofs.Common.{◌≡◌, ◌<◌, length, sym, ap, subst, List, ◌∙◌, ℕ, ◌+◌, ◌-◌, arith, slice_index_or, replicate, [], ◌∷◌, ◌++◌}
+use Rattle.std.proofs.Common.{◌≡◌, ◌<◌, length, sym, ap, subst, List, ◌∙◌, ℕ, ◌+◌, ◌-◌, arith, slice_index_or}
+use Rattle.std.proofs.Common.{replicate, [], ◌∷◌, ◌++◌}
 use Rattle.cm_ctx.specs.declared.piece.Piece.{Piece}
 use Rattle.cm_ctx.specs.Contexts.{payloads_of}
 use Rattle.cm_ctx.specs.Asking.{IsNew, with_number, number_of}
@@ -22,7 +23,8 @@ invariant_of-result c =
     (subst (λ k. slice_index_or c.in_ok-roots.roots.items n 0 ≡ with_number rs k c.in-Ok.next n) c.root_number.ensures
     (subst (λ (ns : List ℕ). slice_index_or c.in_ok-roots.roots.items n 0
     ≡ with_number ns c.root_number.result c.in-Ok.next n) c.as_slice.ensures.value (c.in_ok-roots.ensures n))) in
-    indexed_given ps os rs c.self.invariant p new row c.in_ok-roots.roots.items table c.in_ok-pieces.pieces.items c.in_ok-options.options.items c.len-count.result (c.in-Ok.next - 1)
+    indexed_given ps os rs c.self.invariant p new row c.in_ok-roots.roots.items table c.in_ok-pieces.pieces.items
+    c.in_ok-options.options.items c.len-count.result (c.in-Ok.next - 1)
     (c.in_ok-pieces.ensures ∙ ap (λ (qs : List Piece). qs ++ p ∷ []) c.as_slice-before.ensures.value)
     (c.in_ok-options.ensures ∙ ap (λ qs. qs ++ replicate c.len-count.result
     (c.in-Ok.next - 1)) c.as_slice-2.ensures.value) c.len-count.ensures (omega (arith, next))

@@ -9,7 +9,8 @@ use Rattle.cm_ctx.proofs.context.Ctx.sym_of_tag.Goals as goal
 pub sym_of-requires : goal.sym_of-requires
 sym_of-requires c =
     let old : Context =
-    context c.self.inside.classes c.self.inside.bounds c.self.inside.tags.items c.self.inside.options.items c.self.inside.asked in
+    context c.self.inside.classes c.self.inside.bounds c.self.inside.tags.items c.self.inside.options.items
+    c.self.inside.asked in
     let all = tags_named first_counts (counts_of old) c.self.inside.asked c.self.invariant.row in
     let lt : c.args.x.0 < length old.tags = subst (λ (x : Context). c.args.x.0
     < length x.tags) (sym c.self.view_is) c.requires in

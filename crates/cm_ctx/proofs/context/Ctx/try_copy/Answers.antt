@@ -16,4 +16,5 @@ invariant_of-result c =
       c.as_slice-2.ensures.value,
       c.in_ok-share.ensures.value,
     )
-    (other_spare c.self.inside.counts c.self.inside.classes c.self.inside.bounds c.self.inside.tags.items c.self.inside.options.items c.self.inside.asked c.in_ok-classes.classes.spare c.self.invariant)
+    (other_spare c.self.inside.counts c.self.inside.classes c.self.inside.bounds c.self.inside.tags.items
+    c.self.inside.options.items c.self.inside.asked c.in_ok-classes.classes.spare c.self.invariant)

@@ -17,7 +17,8 @@ pub invariant_of-result : goal.invariant_of-result
 invariant_of-result c =
     let q = c.args.piece in
     let old : Context =
-    context c.self.inside.classes c.self.inside.bounds c.self.inside.tags.items c.self.inside.options.items c.self.inside.asked in
+    context c.self.inside.classes c.self.inside.bounds c.self.inside.tags.items c.self.inside.options.items
+    c.self.inside.asked in
     let from : q.from ≡ counts_of old = subst (λ (x : Context). q.from
     ≡ counts_of x) (sym c.self.view_is) c.requires.from in
     let sorts = rw (c.as_slice.ensures) at c.in_ok-classes.ensures.sorts in
@@ -27,14 +28,18 @@ invariant_of-result c =
     let options = rw (c.as_slice-5.ensures.value, c.as_slice-6.ensures) at c.in_ok-options.ensures in
     let pieces : c.in_ok-asked-2.asked ≡ c.self.inside.asked ++ q ∷ [] = c.in_ok-asked-2.ensures.value
     ∙ c.in_ok-asked.ensures ∙ ap (λ (ps : List Piece). ps ++ q ∷ []) c.get.ensures.value in
-    proper_given c.self.inside.counts old c.self.invariant q c.requires.fits from c.in_ok-classes.classes c.in_ok-bounds.bounds sorts c.in_ok-classes.ensures.kept numbers kept
-    c.in_ok-counts.counts c.in_ok-tags.tags.items c.in_ok-options.options.items c.in_ok-asked-2.asked c.in_ok-counts.ensures tags options pieces c.in_ok-classes.ensures.satisfiable c.in_ok-bounds.ensures.satisfiable
+    proper_given c.self.inside.counts old c.self.invariant q c.requires.fits from c.in_ok-classes.classes
+    c.in_ok-bounds.bounds sorts c.in_ok-classes.ensures.kept numbers kept
+    c.in_ok-counts.counts c.in_ok-tags.tags.items c.in_ok-options.options.items c.in_ok-asked-2.asked
+    c.in_ok-counts.ensures tags options pieces c.in_ok-classes.ensures.satisfiable
+    c.in_ok-bounds.ensures.satisfiable
 
 pub returns : goal.returns
 returns c =
     let q = c.args.piece in
     let old : Context =
-    context c.self.inside.classes c.self.inside.bounds c.self.inside.tags.items c.self.inside.options.items c.self.inside.asked in
+    context c.self.inside.classes c.self.inside.bounds c.self.inside.tags.items c.self.inside.options.items
+    c.self.inside.asked in
     let from : q.from ≡ counts_of old = subst (λ (x : Context). q.from
     ≡ counts_of x) (sym c.self.view_is) c.requires.from in
     let sorts = rw (c.as_slice.ensures) at c.in_ok-classes.ensures.sorts in
@@ -46,7 +51,10 @@ returns c =
     ∙ c.in_ok-asked.ensures ∙ ap (λ (ps : List Piece). ps ++ q ∷ []) c.get.ensures.value in
     record {
       context = subst (λ (x : Context). Grows x q
-          (context c.in_ok-classes.classes c.in_ok-bounds.bounds c.in_ok-tags.tags.items c.in_ok-options.options.items c.in_ok-asked-2.asked)) c.self.view_is
-          (grows_given c.self.inside.counts old c.self.invariant q c.requires.fits from c.in_ok-classes.classes c.in_ok-bounds.bounds sorts c.in_ok-classes.ensures.kept numbers kept
-          c.in_ok-counts.counts c.in_ok-tags.tags.items c.in_ok-options.options.items c.in_ok-asked-2.asked c.in_ok-counts.ensures tags options pieces);
+          (context c.in_ok-classes.classes c.in_ok-bounds.bounds c.in_ok-tags.tags.items c.in_ok-options.options.items
+          c.in_ok-asked-2.asked)) c.self.view_is
+          (grows_given c.self.inside.counts old c.self.invariant q c.requires.fits from c.in_ok-classes.classes
+          c.in_ok-bounds.bounds sorts c.in_ok-classes.ensures.kept numbers kept
+          c.in_ok-counts.counts c.in_ok-tags.tags.items c.in_ok-options.options.items c.in_ok-asked-2.asked
+          c.in_ok-counts.ensures tags options pieces);
     }

@@ -12,7 +12,8 @@ returns-in-None-clause-cause c =
 
 pub returns-in-None-clause-quiet : goal.returns-in-None-clause-quiet
 returns-in-None-clause-quiet c = λ none name held.
-    let unnamed = named_among-none c.self.inside.fails c.saturating_add-self-inside.result (ap (λ s. s.fails) c.self.view_is ∙ none) in
+    let unnamed = named_among-none c.self.inside.fails c.saturating_add-self-inside.result
+    (ap (λ s. s.fails) c.self.view_is ∙ none) in
     rw (held, unnamed) refl
 
 pub returns-in-Some-clause-cause : goal.returns-in-Some-clause-cause
@@ -24,5 +25,6 @@ returns-in-Some-clause-cause c =
 
 pub returns-in-Some-2-clause-quiet : goal.returns-in-Some-2-clause-quiet
 returns-in-Some-2-clause-quiet c = λ none name held.
-    let unnamed = named_among-none c.self.inside.fails c.saturating_add-self-inside.result (ap (λ s. s.fails) c.self.view_is ∙ none) in
+    let unnamed = named_among-none c.self.inside.fails c.saturating_add-self-inside.result
+    (ap (λ s. s.fails) c.self.view_is ∙ none) in
     rw (held, unnamed) refl

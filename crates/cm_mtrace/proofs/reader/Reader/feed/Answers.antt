@@ -10,8 +10,10 @@ returns-then-reached-clause-stands c text stands =
     let p : Progress = record { lines = i.lines; left = i.left.items; fault = i.fault } in
     let s = subst (λ q. StandsFor q text) (sym c.self.view_is) stands in
     let r = rw c.if-reached.true at c.in-Ok.ensures.reaches in
-    let on = stands_on p c.args.piece.now c.args.to.now.items c.read_piece.new.to.items c.in-Ok.reached.lines c.read_piece.new.left.items r text s in
-    subst (λ f. StandsFor (record { lines = c.in-Ok.reached.lines; left = c.read_piece.new.left.items; fault = f }) (text ++ c.args.piece.now)) (sym s.fault) on
+    let on = stands_on p c.args.piece.now c.args.to.now.items c.read_piece.new.to.items c.in-Ok.reached.lines
+    c.read_piece.new.left.items r text s in
+    subst (λ f. StandsFor (record { lines = c.in-Ok.reached.lines; left = c.read_piece.new.left.items; fault = f })
+    (text ++ c.args.piece.now)) (sym s.fault) on
 
 pub returns-then-reached-clause-given : goal.returns-then-reached-clause-given
 returns-then-reached-clause-given c =
@@ -23,7 +25,8 @@ returns-then-reached-clause-given c =
       g.1,
       valid_items i.lines r.0 g.0 g.2,
       λ text items stands give.
-          given_on p c.args.piece.now c.args.to.now.items c.read_piece.new.to.items c.in-Ok.reached.lines c.read_piece.new.left.items r text items (subst (λ q. StandsFor q text) (sym c.self.view_is) stands) give,
+          given_on p c.args.piece.now c.args.to.now.items c.read_piece.new.to.items c.in-Ok.reached.lines
+          c.read_piece.new.left.items r text items (subst (λ q. StandsFor q text) (sym c.self.view_is) stands) give,
     )
 
 pub returns-else-reached-clause-first : goal.returns-else-reached-clause-first
@@ -33,7 +36,8 @@ returns-else-reached-clause-first c =
     let r = rw c.if-reached.false at c.in-Ok.ensures.reaches in
     rw c.fail.ensures.result
     (λ text stands.
-    let spoil = spoiled_on p c.args.piece.now c.args.to.now.items c.read_piece.new.to.items c.in-Ok.reached.lines c.read_piece.new.left.items r text (subst (λ q. StandsFor q text) (sym c.self.view_is) stands) in
+    let spoil = spoiled_on p c.args.piece.now c.args.to.now.items c.read_piece.new.to.items c.in-Ok.reached.lines
+    c.read_piece.new.left.items r text (subst (λ q. StandsFor q text) (sym c.self.view_is) stands) in
     subst (λ n. NamesFirst (text ++ c.args.piece.now) (BadLine (n + 1))) (sym spoil.1) spoil.0.first)
 
 pub returns-else-reached-clause-seen : goal.returns-else-reached-clause-seen
@@ -43,7 +47,8 @@ returns-else-reached-clause-seen c =
     let r = rw c.if-reached.false at c.in-Ok.ensures.reaches in
     rw c.fail.ensures.result
     (λ text stands.
-    let spoil = spoiled_on p c.args.piece.now c.args.to.now.items c.read_piece.new.to.items c.in-Ok.reached.lines c.read_piece.new.left.items r text (subst (λ q. StandsFor q text) (sym c.self.view_is) stands) in
+    let spoil = spoiled_on p c.args.piece.now c.args.to.now.items c.read_piece.new.to.items c.in-Ok.reached.lines
+    c.read_piece.new.left.items r text (subst (λ q. StandsFor q text) (sym c.self.view_is) stands) in
     subst (λ n. NamesSeen (text ++ c.args.piece.now) (BadLine (n + 1))) (sym spoil.1) spoil.0.seen)
 
 pub returns-else-reached-clause-earlier : goal.returns-else-reached-clause-earlier
@@ -57,5 +62,6 @@ returns-else-reached-clause-earlier c =
       g.0,
       g.1,
       λ text items stands give.
-          earlier_on p c.args.piece.now c.args.to.now.items c.read_piece.new.to.items c.in-Ok.reached.lines c.read_piece.new.left.items r text items (subst (λ q. StandsFor q text) (sym c.self.view_is) stands) give,
+          earlier_on p c.args.piece.now c.args.to.now.items c.read_piece.new.to.items c.in-Ok.reached.lines
+          c.read_piece.new.left.items r text items (subst (λ q. StandsFor q text) (sym c.self.view_is) stands) give,
     ))

@@ -16,5 +16,8 @@ returns-clause-kept c = λ v. (
       let high = first.1 in
       let low = second.1 in
       (first.0, omega (arith, ints))),
-  (λ s. let same = s.1 in (c.add_edge.ensures.kept v).1 ((c.add_le.ensures.kept v).1 (s.0, omega (arith, ints)), omega (arith, ints))),
+  (λ s. let same = s.1 in (c.add_edge.ensures.kept v).1 (
+    (c.add_le.ensures.kept v).1 (s.0, omega (arith, ints)),
+    omega (arith, ints),
+  )),
 )

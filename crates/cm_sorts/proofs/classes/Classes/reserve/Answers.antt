@@ -1,8 +1,8 @@
 use Rattle.std.proofs.Common.{◌≡◌, ◌≤◌, ◌*◌, length, ap, arith}
 use Rattle.std.proofs.lemmas.Result.{on_ok_weaker}
 use Rattle.cm_sorts.specs.Partition.{Partition}
-use Rattle.cm_sorts.specs.Pairs.{pairs_below}
-use Rattle.cm_sorts.specs.Words.{labels_of, sorts_of}
+use Rattle.cm_sorts.specs.inner.Pairs.{pairs_below}
+use Rattle.cm_sorts.specs.inner.Words.{labels_of, sorts_of}
 use Rattle.cm_sorts.proofs.Joining.{roomy, same_proper}
 use Rattle.cm_sorts.proofs.Sorting.{same_sorted}
 use Rattle.cm_sorts.proofs.classes.Classes.reserve.Goals as goal
@@ -21,7 +21,9 @@ pub returns-clause-room : goal.returns-clause-room
 returns-clause-room c =
     let long : c.len.result ≡ length c.self.inside.variables.items = omega arith in
     on_ok_weaker c.make_room.result
-    (λ (room : pairs_below c.len.result ≤ 64 * length c.make_room.new.words.items). rw (← c.self.view_is) (roomy c.self.inside.variables.items c.self.inside.words.items c.make_room.new.words.items c.make_room.ensures.kept (rw (ap pairs_below long) at room)))
+    (λ (room : pairs_below c.len.result ≤ 64 * length c.make_room.new.words.items). rw (← c.self.view_is)
+    (roomy c.self.inside.variables.items c.self.inside.words.items c.make_room.new.words.items
+    c.make_room.ensures.kept (rw (ap pairs_below long) at room)))
     c.make_room.ensures.room
 
 pub returns-clause-sorts : goal.returns-clause-sorts

@@ -1,5 +1,5 @@
 use Rattle.std.proofs.Common.{◌+◌, ◌*◌, ◌≤◌, length}
-use Rattle.cm_syntax.specs.Machine.{Ands, Ors, MoreSets, MoreArgs, followed_by, Partly}
+use Rattle.cm_syntax.specs.inner.Machine.{Ands, Ors, MoreSets, MoreArgs, followed_by, Partly}
 use Rattle.cm_syntax.proofs.reader.Reader.+read_expr.Given as goal
 
 abbrev pub decreases-read_expr : goal.decreases-read_expr

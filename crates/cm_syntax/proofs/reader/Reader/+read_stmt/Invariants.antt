@@ -1,5 +1,5 @@
 use Rattle.std.proofs.Common.{◌+◌, ◌*◌, ◌≤◌, length}
-use Rattle.cm_syntax.specs.Machine.{Stmts, followed_by, Partly}
+use Rattle.cm_syntax.specs.inner.Machine.{Stmts, followed_by, Partly}
 use Rattle.cm_syntax.proofs.reader.Reader.+read_stmt.Given as goal
 
 abbrev pub decreases-read_block : goal.decreases-read_block

@@ -1,5 +1,5 @@
 use Rattle.std.proofs.Common.{length}
-use Rattle.cm_syntax.specs.Machine.{Decls, followed_by, Partly}
+use Rattle.cm_syntax.specs.inner.Machine.{Decls, followed_by, Partly}
 use Rattle.cm_syntax.proofs.reader.Reader.read_decls.Given as goal
 
 abbrev pub invariant-declarations : goal.invariant-declarations

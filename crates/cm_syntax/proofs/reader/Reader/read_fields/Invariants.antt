@@ -1,5 +1,5 @@
 use Rattle.std.proofs.Common.{◌≤◌, length}
-use Rattle.cm_syntax.specs.Machine.{Fields, followed_by, Partly}
+use Rattle.cm_syntax.specs.inner.Machine.{Fields, followed_by, Partly}
 use Rattle.cm_syntax.proofs.reader.Reader.read_fields.Given as goal
 
 abbrev pub invariant-items : goal.invariant-items

@@ -1,5 +1,5 @@
 use Rattle.std.proofs.Common.{◌≤◌, length}
-use Rattle.cm_syntax.specs.Machine.{MoreNames, followed_by, Partly}
+use Rattle.cm_syntax.specs.inner.Machine.{MoreNames, followed_by, Partly}
 use Rattle.cm_syntax.proofs.reader.Reader.read_more_names.Given as goal
 
 abbrev pub invariant-names : goal.invariant-names

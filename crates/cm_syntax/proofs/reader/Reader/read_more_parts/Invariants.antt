@@ -1,5 +1,5 @@
 use Rattle.std.proofs.Common.{◌≤◌, length}
-use Rattle.cm_syntax.specs.Machine.{MoreParts, followed_by, Partly}
+use Rattle.cm_syntax.specs.inner.Machine.{MoreParts, followed_by, Partly}
 use Rattle.cm_syntax.proofs.reader.Reader.read_more_parts.Given as goal
 
 abbrev pub invariant-parts : goal.invariant-parts

@@ -3,7 +3,7 @@ use Rattle.cm_judge.specs.Judge.{StandsFor}
 use Rattle.cm_mtrace.specs.Trace.{Section, items_of}
 use Rattle.cm_mtrace.specs.declared.Entry.{Entry}
 use Rattle.cm_mtrace.specs.declared.Item.{Item}
-use Rattle.cm_top.specs.Sections.{Have}
+use Rattle.cm_top.specs.inner.Sections.{Have}
 use Rattle.cm_top.specs.declared.sections.Sections.{Sections}
 use Rattle.cm_top.proofs.SectionSteps.{entry_more, on_ok}
 use Rattle.cm_top.proofs.sections.Sections.add.Goals as goal

@@ -1,5 +1,5 @@
 use Rattle.std.proofs.Common.{sym, subst, ◌∙◌}
-use Rattle.cm_top.specs.Sections.{AreJudged, HaveFrom}
+use Rattle.cm_top.specs.inner.Sections.{AreJudged, HaveFrom}
 use Rattle.cm_top.proofs.SectionSteps.{section_ends}
 use Rattle.cm_top.proofs.sections.Sections.end.Goals as goal
 

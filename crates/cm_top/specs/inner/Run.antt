@@ -5,7 +5,7 @@ use Rattle.cm_mtrace.specs.Trace.{GiveItems, IsFirstBad, IsTrace, Section, whole
 use Rattle.cm_mtrace.specs.declared.Item.{Item}
 use Rattle.cm_mtrace.specs.declared.TraceFault.{TraceFault}
 use Rattle.cm_mtrace.specs.declared.TraceFault.TheVariants.{BadLine, Memory}
-use Rattle.cm_top.specs.Sections.{AreJudged, Have}
+use Rattle.cm_top.specs.inner.Sections.{AreJudged, Have}
 use Rattle.cm_top.specs.declared.run.Run.{Run}
 use Rattle.cm_top.specs.declared.sections.Judged.{Judged}
 

@@ -1,5 +1,6 @@
 -- How bounds are kept: a list of shells, each one variable's differences with those before it.
-use Rattle.std.specs.Prelude.{◌≡◌, ◌<◌, ◌≤◌, ◌+◌, ◌-◌, ◌*◌, ◌^◌, ◌&&◌, ℕ, ℤ, pos, ◌+ℤ◌, ◌-ℤ◌, ◌≤ℤ◌, nat_le, nat_lt, if◌then◌else◌, List, length, map, slice_index_or}
+use Rattle.std.specs.Prelude.{◌≡◌, ◌<◌, ◌≤◌, ◌+◌, ◌-◌, ◌*◌, ◌^◌, ◌&&◌, ℕ, ℤ, pos, ◌+ℤ◌, ◌-ℤ◌, ◌≤ℤ◌, nat_le, nat_lt}
+use Rattle.std.specs.Prelude.{if◌then◌else◌, List, length, map, slice_index_or}
 use Rattle.std.specs.Int.{int_min}
 use Rattle.std.specs.List.{range_with_len}
 use Rattle.cm_order.specs.Differences.{Differences}
@@ -39,7 +40,8 @@ with_edge d x y w i j = int_min (d i j) ((d i x +ℤ w) +ℤ d y j)
 -- n numbers from `start` on, each at most `by` more than another
 abbrev pub relaxed : List ℤ → ℕ → List ℤ → ℤ → ℕ → ℕ → ℤ
 relaxed cells start others by n p =
-    if nat_le start p && nat_lt p (start + n) then int_min (number_at cells p) (by +ℤ number_at others (p - start)) else number_at cells p
+    if nat_le start p && nat_lt p (start + n) then int_min (number_at cells p) (by +ℤ number_at others (p - start))
+    else number_at cells p
 
 -- the entries of one shell, lowered to the sum of a column and a row
 abbrev pub lowered : (ℕ → ℕ → ℤ) → List ℤ → List ℤ → ℕ → ℕ → ℤ
@@ -47,4 +49,5 @@ lowered d column row i j = int_min (d i j) (number_at column i +ℤ number_at ro
 
 -- the bounds with one more variable, between lo and hi
 abbrev pub extended : ℕ → (ℕ → ℕ → ℤ) → ℤ → ℤ → ℕ → ℕ → ℤ
-extended n d lo hi i j = if nat_lt i n then (if nat_lt j n then d i j else d i 0 -ℤ lo) else (if nat_lt j n then hi +ℤ d 0 j else pos 0)
+extended n d lo hi i j = if nat_lt i n then (if nat_lt j n then d i j else d i 0 -ℤ lo)
+    else (if nat_lt j n then hi +ℤ d 0 j else pos 0)

@@ -1,8 +1,9 @@
 -- How classes are kept.
-use Rattle.std.specs.Prelude.{◌≡◌, ◌≢◌, ◌<◌, ◌≤◌, ◌*◌, ◌^◌, ◌==◌, ◌&&◌, ◌||◌, ℕ, Bool, true, false, nat_lt, nat_le, if◌then◌else◌, List, length, map, slice_index}
+use Rattle.std.specs.Prelude.{◌≡◌, ◌≢◌, ◌<◌, ◌≤◌, ◌*◌, ◌^◌, ◌==◌, ◌&&◌, ◌||◌, ℕ, Bool, true, false, nat_lt, nat_le}
+use Rattle.std.specs.Prelude.{if◌then◌else◌, List, length, map, slice_index}
 use Rattle.std.specs.List.{range_with_len}
 use Rattle.cm_sorts.specs.declared.words.Variable.{Variable}
-use Rattle.cm_sorts.specs.Pairs.{pairs_below, are_marked}
+use Rattle.cm_sorts.specs.inner.Pairs.{pairs_below, are_marked}
 use Rattle.cm_sorts.specs.Partition.{Partition}
 
 abbrev pub labels_of : List Variable → List ℕ

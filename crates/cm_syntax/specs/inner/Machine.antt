@@ -1,5 +1,7 @@
--- A machine that takes one token at a time; what is yet to come is a list of symbols. Only the clauses of the functions that read a part of a text speak of it.
-use Rattle.std.specs.Prelude.{◌≡◌, ℕ, Bool, true, false, List, [], ◌∷◌, ◌++◌, Option, Some, None, Result, Ok, Err, if◌then◌else◌}
+-- A machine that takes one token at a time; what is yet to come is a list of symbols. Only the clauses of the
+-- functions that read a part of a text speak of it.
+use Rattle.std.specs.Prelude.{◌≡◌, ℕ, Bool, true, false, List, [], ◌∷◌, ◌++◌, Option, Some, None, Result, Ok, Err}
+use Rattle.std.specs.Prelude.{if◌then◌else◌}
 use Rattle.cm_model.specs.declared.place.Place.{Place}
 use Rattle.cm_tokens.specs.declared.token.Token.{Token}
 use Rattle.cm_tokens.specs.declared.token.Token.TheVariants as token
@@ -191,7 +193,8 @@ num_at _ a st = Fails
 abbrev pub type_at : Option Token → Place → (st : Stack) → Shift (AType ∷ st)
 type_at (Some token.Bool) a st = Takes st (λ v. (type.Bool a, v))
 type_at (Some (token.Name n)) a st = Takes st (λ v. (type.Named a n, v))
-type_at (Some token.Option) a st = Takes (Exactly mark.OpenRound ∷ AType ∷ Exactly mark.CloseRound ∷ st) (λ v. (type.Optional a v.1.0, v.1.1.1))
+type_at (Some token.Option) a st = Takes (Exactly mark.OpenRound ∷ AType ∷ Exactly mark.CloseRound ∷ st)
+    (λ v. (type.Optional a v.1.0, v.1.1.1))
 type_at _ a st = Fails
 
 abbrev pub part_of : Place → List ℕ → TypeTree → Part
@@ -205,11 +208,13 @@ more_parts_at (Some token.Comma) st next = Takes (APart ∷ MoreParts ∷ st) (�
 more_parts_at _ st next = mapped (λ v. ([], v)) next
 
 abbrev pub params_at : Option Token → Place → (st : Stack) → Shift st → Shift (Params ∷ st)
-params_at (Some (token.Name n)) a st next = mapped (λ v. (v.0 ∷ v.1.0, v.1.1)) (part_at (Some (token.Name n)) a (MoreParts ∷ st))
+params_at (Some (token.Name n)) a st next = mapped (λ v. (v.0 ∷ v.1.0, v.1.1))
+    (part_at (Some (token.Name n)) a (MoreParts ∷ st))
 params_at _ a st next = mapped (λ v. ([], v)) next
 
 abbrev pub internals_at : Option Token → (st : Stack) → Shift st → Shift (Internals ∷ st)
-internals_at (Some token.Semicolon) st next = Takes (Exactly mark.Internal ∷ APart ∷ MoreParts ∷ st) (λ v. (v.1.0 ∷ v.1.1.0, v.1.1.1))
+internals_at (Some token.Semicolon) st next = Takes (Exactly mark.Internal ∷ APart ∷ MoreParts ∷ st)
+    (λ v. (v.1.0 ∷ v.1.1.0, v.1.1.1))
 internals_at _ st next = mapped (λ v. ([], v)) next
 
 abbrev pub more_names_at : Option Token → (st : Stack) → Shift st → Shift (MoreNames ∷ st)
@@ -244,13 +249,16 @@ prim_at (Some token.True) a st = Takes st (λ v. (prim.True a, v))
 prim_at (Some token.False) a st = Takes st (λ v. (prim.False a, v))
 prim_at (Some token.It) a st = Takes st (λ v. (prim.It a, v))
 prim_at (Some (token.Name n)) a st = Takes (BehindName ∷ st) (λ v. (after_name a n v.0, v.1))
-prim_at (Some token.Nothing) a st = Takes (Exactly mark.OpenRound ∷ AType ∷ Exactly mark.CloseRound ∷ st) (λ v. (prim.NoneOf a v.1.0, v.1.1.1))
-prim_at (Some token.Something) a st = Takes (Exactly mark.OpenRound ∷ AnExpr ∷ Exactly mark.CloseRound ∷ st) (λ v. (prim.SomeOf a v.1.0, v.1.1.1))
+prim_at (Some token.Nothing) a st = Takes (Exactly mark.OpenRound ∷ AType ∷ Exactly mark.CloseRound ∷ st)
+    (λ v. (prim.NoneOf a v.1.0, v.1.1.1))
+prim_at (Some token.Something) a st = Takes (Exactly mark.OpenRound ∷ AnExpr ∷ Exactly mark.CloseRound ∷ st)
+    (λ v. (prim.SomeOf a v.1.0, v.1.1.1))
 prim_at (Some token.OpenRound) a st = Takes (AnExpr ∷ Exactly mark.CloseRound ∷ st) (λ v. (prim.Group a v.0, v.1.1))
 prim_at _ a st = Fails
 
 abbrev pub behind_name_at : Option Token → (st : Stack) → Shift st → Shift (BehindName ∷ st)
-behind_name_at (Some token.OpenSquare) st next = Takes (AnExpr ∷ Exactly mark.CloseSquare ∷ st) (λ v. (after.Key v.0, v.1.1))
+behind_name_at (Some token.OpenSquare) st next = Takes (AnExpr ∷ Exactly mark.CloseSquare ∷ st)
+    (λ v. (after.Key v.0, v.1.1))
 behind_name_at (Some token.OpenRound) st next = Takes (Args ∷ st) (λ v. (after.Args v.0, v.1))
 behind_name_at _ st next = mapped (λ v. (after.Nothing, v)) next
 
@@ -266,7 +274,8 @@ more_sets_at (Some token.Comma) st next = Takes (ASet ∷ MoreSets ∷ st) (λ v
 more_sets_at _ st next = mapped (λ v. ([], v)) next
 
 abbrev pub with_at : Option Token → (st : Stack) → Shift st → Shift (With ∷ st)
-with_at (Some token.With) st next = Takes (Exactly mark.OpenCurly ∷ ASet ∷ MoreSets ∷ Exactly mark.CloseCurly ∷ st) (λ v. (v.1.0 ∷ v.1.1.0, v.1.1.1.1))
+with_at (Some token.With) st next = Takes (Exactly mark.OpenCurly ∷ ASet ∷ MoreSets ∷ Exactly mark.CloseCurly ∷ st)
+    (λ v. (v.1.0 ∷ v.1.1.0, v.1.1.1.1))
 with_at _ st next = mapped (λ v. ([], v)) next
 
 abbrev pub post_at : Option Token → Place → (st : Stack) → Shift (APost ∷ st)
@@ -339,10 +348,14 @@ block_at (Some token.OpenCurly) a st = Takes (Stmts ∷ st) (λ v. (block_of a v
 block_at _ a st = Fails
 
 abbrev pub stmt_at : Option Token → Place → (st : Stack) → Shift (AStmt ∷ st)
-stmt_at (Some token.Let) a st = Takes (AName ∷ Exactly mark.Assign ∷ AnExpr ∷ Exactly mark.Semicolon ∷ st) (λ v. (stmt.Let a v.0 v.1.1.0, v.1.1.1.1))
-stmt_at (Some (token.Name n)) a st = Takes (Index ∷ Exactly mark.Assign ∷ AnExpr ∷ Exactly mark.Semicolon ∷ st) (λ v. (assign_of a n v.0 v.1.1.0, v.1.1.1.1))
+stmt_at (Some token.Let) a st = Takes (AName ∷ Exactly mark.Assign ∷ AnExpr ∷ Exactly mark.Semicolon ∷ st)
+    (λ v. (stmt.Let a v.0 v.1.1.0, v.1.1.1.1))
+stmt_at (Some (token.Name n)) a st = Takes (Index ∷ Exactly mark.Assign ∷ AnExpr ∷ Exactly mark.Semicolon ∷ st)
+    (λ v. (assign_of a n v.0 v.1.1.0, v.1.1.1.1))
 stmt_at (Some token.If) a st = Takes (AnExpr ∷ ABlock ∷ Else ∷ st) (λ v. (if_of a v.0 v.1.0 v.1.1.0, v.1.1.1))
-stmt_at (Some token.Case) a st = Takes (AnExpr ∷ Exactly mark.OpenCurly ∷ Exactly mark.Nothing ∷ ABlock ∷ Exactly mark.Something ∷ AName ∷ ABlock ∷ Exactly mark.CloseCurly ∷ st) (λ v. (stmt.Case a v.0 v.1.1.1.0 v.1.1.1.1.1.0 v.1.1.1.1.1.1.0, v.1.1.1.1.1.1.1.1))
+stmt_at (Some token.Case) a st = Takes (AnExpr ∷ Exactly mark.OpenCurly ∷ Exactly mark.Nothing ∷ ABlock
+    ∷ Exactly mark.Something ∷ AName ∷ ABlock ∷ Exactly mark.CloseCurly ∷ st)
+    (λ v. (stmt.Case a v.0 v.1.1.1.0 v.1.1.1.1.1.0 v.1.1.1.1.1.1.0, v.1.1.1.1.1.1.1.1))
 stmt_at (Some token.Assume) a st = Takes (AnExpr ∷ Exactly mark.Semicolon ∷ st) (λ v. (stmt.Assume a v.0, v.1.1))
 stmt_at (Some token.Return) a st = Takes (AnExpr ∷ Exactly mark.Semicolon ∷ st) (λ v. (stmt.Return a v.0, v.1.1))
 stmt_at _ a st = Fails
@@ -378,12 +391,25 @@ where_at _ st next = mapped (λ v. (None, v)) next
 
 abbrev pub decl_at : Option Token → Place → (st : Stack) → Shift (ADecl ∷ st)
 decl_at (Some token.Sort) a st = Takes (AName ∷ Exactly mark.Semicolon ∷ st) (λ v. (decl.Sort a v.0, v.1.1))
-decl_at (Some token.Int) a st = Takes (AName ∷ ANum ∷ Exactly mark.DotDot ∷ ANum ∷ Exactly mark.Semicolon ∷ st) (λ v. (decl.Int a v.0 v.1.0 v.1.1.1.0, v.1.1.1.1.1))
-decl_at (Some token.Enum) a st = Takes (AName ∷ Exactly mark.OpenCurly ∷ AName ∷ MoreNames ∷ Exactly mark.CloseCurly ∷ st) (λ v. (decl.Enum a v.0 v.1.1.0 v.1.1.1.0, v.1.1.1.1.1))
-decl_at (Some token.Record) a st = Takes (AName ∷ Exactly mark.OpenCurly ∷ APart ∷ MoreParts ∷ Exactly mark.CloseCurly ∷ st) (λ v. (decl.Record a v.0 v.1.1.0 v.1.1.1.0, v.1.1.1.1.1))
-decl_at (Some token.State) a st = Takes (AName ∷ Exactly mark.Colon ∷ Key ∷ AType ∷ Where ∷ Exactly mark.Semicolon ∷ st) (λ v. (state_of a v.0 v.1.1.0 v.1.1.1.0 v.1.1.1.1.0, v.1.1.1.1.1.1))
-decl_at (Some token.Fn) a st = Takes (AName ∷ Exactly mark.OpenRound ∷ Params ∷ Exactly mark.CloseRound ∷ Exactly mark.Arrow ∷ AType ∷ ABlock ∷ st) (λ v. (decl.Function a v.0 v.1.1.0 v.1.1.1.1.1.0 v.1.1.1.1.1.1.0, v.1.1.1.1.1.1.1))
-decl_at (Some token.Call) a st = Takes (AName ∷ Exactly mark.OpenRound ∷ Params ∷ Internals ∷ Exactly mark.CloseRound ∷ Exactly mark.Arrow ∷ AType ∷ ABlock ∷ st) (λ v. (decl.Call a v.0 v.1.1.0 v.1.1.1.0 v.1.1.1.1.1.1.0 v.1.1.1.1.1.1.1.0, v.1.1.1.1.1.1.1.1))
+decl_at (Some token.Int) a st = Takes (AName ∷ ANum ∷ Exactly mark.DotDot ∷ ANum ∷ Exactly mark.Semicolon ∷ st)
+    (λ v. (decl.Int a v.0 v.1.0 v.1.1.1.0, v.1.1.1.1.1))
+decl_at (Some token.Enum) a st = Takes (AName ∷ Exactly mark.OpenCurly ∷ AName ∷ MoreNames ∷ Exactly mark.CloseCurly
+    ∷ st) (λ v. (decl.Enum a v.0 v.1.1.0 v.1.1.1.0, v.1.1.1.1.1))
+decl_at (Some token.Record) a st = Takes (AName ∷ Exactly mark.OpenCurly ∷ APart ∷ MoreParts ∷ Exactly mark.CloseCurly
+    ∷ st) (λ v. (decl.Record a v.0 v.1.1.0 v.1.1.1.0, v.1.1.1.1.1))
+decl_at (Some token.State) a st = Takes (AName ∷ Exactly mark.Colon ∷ Key ∷ AType ∷ Where ∷ Exactly mark.Semicolon ∷ st)
+    (λ v. (state_of a v.0 v.1.1.0 v.1.1.1.0 v.1.1.1.1.0, v.1.1.1.1.1.1))
+decl_at (Some token.Fn) a st = Takes (AName ∷ Exactly mark.OpenRound ∷ Params ∷ Exactly mark.CloseRound
+    ∷ Exactly mark.Arrow ∷ AType ∷ ABlock ∷ st) (λ v. (
+      decl.Function a v.0 v.1.1.0 v.1.1.1.1.1.0 v.1.1.1.1.1.1.0,
+      v.1.1.1.1.1.1.1,
+    ))
+decl_at (Some token.Call) a st = Takes (AName ∷ Exactly mark.OpenRound ∷ Params ∷ Internals ∷ Exactly mark.CloseRound
+    ∷ Exactly mark.Arrow ∷ AType ∷ ABlock ∷ st) (λ v. (
+      decl.Call a v.0 v.1.1.0 v.1.1.1.0 v.1.1.1.1.1.1.0
+          v.1.1.1.1.1.1.1.0,
+      v.1.1.1.1.1.1.1.1,
+    ))
 decl_at _ a st = Fails
 
 -- the declarations and the end of the text
@@ -457,7 +483,8 @@ ended k (Ends v) = Ok (k v)
 ended k (Takes later build) = Err (Syntax [])
 ended k Fails = Err (Syntax [])
 
-abbrev pub moved : {st : Stack} → List Placed → (Values st → Tree) → Shift st → ((later : Stack) → (Values later → Tree) → Answer) → Answer
+abbrev pub moved : {st : Stack} → List Placed → (Values st → Tree) → Shift st
+    → ((later : Stack) → (Values later → Tree) → Answer) → Answer
 moved left k (Takes later build) go = go later (λ v. k (build v))
 moved left k (Ends v) go = Err (Syntax left)
 moved left k Fails go = Err (Syntax left)
@@ -466,7 +493,8 @@ moved left k Fails go = Err (Syntax left)
 abbrev pub reading : ℕ → (st : Stack) → (Values st → Tree) → List Placed → Answer
 reading n st k [] = ended k (shift st None (place_of []))
 reading n st k (p ∷ ps) =
-    moved (p ∷ ps) k (shift st (Some p.token) p.at) (λ later j. if too_deep n p.token then Err (Deep (p ∷ ps)) else reading (open_after n p.token) later j ps)
+    moved (p ∷ ps) k (shift st (Some p.token) p.at) (λ later j. if too_deep n p.token then Err (Deep (p ∷ ps))
+    else reading (open_after n p.token) later j ps)
 
 -- the same with no limit
 abbrev pub running : (st : Stack) → (Values st → Tree) → List Placed → Answer
@@ -532,20 +560,24 @@ head (p ∷ ps) = Some p.token
 
 -- The symbol is read to this value, and this lies ahead then.
 unfoldable pub Gives : (s : Symbol) → Ahead → ValueOf s → Ahead → Type 0
-Gives s a x b = (st : Stack) (k : Values (s ∷ st) → Tree) → reading a.opened (s ∷ st) k a.left ≡ reading b.opened st (λ v. k (x, v)) b.left
+Gives s a x b = (st : Stack) (k : Values (s ∷ st) → Tree) → reading a.opened (s ∷ st) k a.left
+    ≡ reading b.opened st (λ v. k (x, v)) b.left
 
 abbrev pub followed_by : {X : Type 0} → List X → List X → List X
 followed_by xs ys = xs ++ ys
 
 -- The symbol is partly read, to this; its value is this joined with the value of what is left of it.
 unfoldable pub Partly : (s : Symbol) → (ValueOf s → ValueOf s → ValueOf s) → ValueOf s → Ahead → Ahead → Type 0
-Partly s join x a b = (st : Stack) (k : Values (s ∷ st) → Tree) → reading a.opened (s ∷ st) k a.left ≡ reading b.opened (s ∷ st) (λ v. k (join x v.0, v.1)) b.left
+Partly s join x a b = (st : Stack) (k : Values (s ∷ st) → Tree) → reading a.opened (s ∷ st) k a.left
+    ≡ reading b.opened (s ∷ st) (λ v. k (join x v.0, v.1)) b.left
 
 -- The symbol can't be read, and this is why.
 unfoldable pub Stops : Symbol → Ahead → SyntaxFault → Type 0
 Stops s a fault.Memory = Unit {0}
-Stops s a (fault.Syntax place) = (left : List Placed) × (place_of left ≡ place) × ((st : Stack) (k : Values (s ∷ st) → Tree) → reading a.opened (s ∷ st) k a.left ≡ Err (Syntax left))
-Stops s a (fault.Deep place) = (left : List Placed) × (place_of left ≡ place) × ((st : Stack) (k : Values (s ∷ st) → Tree) → reading a.opened (s ∷ st) k a.left ≡ Err (Deep left))
+Stops s a (fault.Syntax place) = (left : List Placed) × (place_of left ≡ place)
+    × ((st : Stack) (k : Values (s ∷ st) → Tree) → reading a.opened (s ∷ st) k a.left ≡ Err (Syntax left))
+Stops s a (fault.Deep place) = (left : List Placed) × (place_of left ≡ place)
+    × ((st : Stack) (k : Values (s ∷ st) → Tree) → reading a.opened (s ∷ st) k a.left ≡ Err (Deep left))
 
 -- What a function that reads a symbol says.
 abbrev pub Reads : {X : Type 0} → (s : Symbol) → (X → ValueOf s) → Ahead → Ahead → Result X SyntaxFault → Type 0
@@ -554,13 +586,15 @@ Reads s value a b (Err e) = Stops s a e
 
 -- The next token, at this place, is passed, and this lies ahead then.
 unfoldable pub Passes : Ahead → Place → Ahead → Type 0
-Passes a place b = (p : Placed) × (a.left ≡ p ∷ b.left) × (p.at ≡ place) × (too_deep a.opened p.token ≡ false) × (b.opened ≡ open_after a.opened p.token)
+Passes a place b = (p : Placed) × (a.left ≡ p ∷ b.left) × (p.at ≡ place) × (too_deep a.opened p.token ≡ false)
+    × (b.opened ≡ open_after a.opened p.token)
 
 -- The next token can't be passed: there is none, or it opens a 65th bracket.
 unfoldable pub Halts : Ahead → SyntaxFault → Type 0
 Halts a fault.Memory = Unit {0}
 Halts a (fault.Syntax place) = (a.left ≡ []) × (place_of a.left ≡ place)
-Halts a (fault.Deep place) = (p : Placed) × (rest : List Placed) × (a.left ≡ p ∷ rest) × (p.at ≡ place) × (too_deep a.opened p.token ≡ true)
+Halts a (fault.Deep place) = (p : Placed) × (rest : List Placed) × (a.left ≡ p ∷ rest) × (p.at ≡ place)
+    × (too_deep a.opened p.token ≡ true)
 
 abbrev pub PassesOr : Ahead → Ahead → Result Place SyntaxFault → Type 0
 PassesOr a b (Ok place) = Passes a place b
@@ -574,5 +608,7 @@ answer_of text = reading 0 (Text ∷ []) (λ v. v.0) text
 unfoldable pub Answers : List Placed → Result Tree SyntaxFault → Type 0
 Answers text (Ok t) = answer_of text ≡ Ok t
 Answers text (Err fault.Memory) = Unit {0}
-Answers text (Err (fault.Syntax place)) = (left : List Placed) × (place_of left ≡ place) × (answer_of text ≡ Err (Syntax left))
-Answers text (Err (fault.Deep place)) = (left : List Placed) × (place_of left ≡ place) × (answer_of text ≡ Err (Deep left))
+Answers text (Err (fault.Syntax place)) = (left : List Placed) × (place_of left ≡ place)
+    × (answer_of text ≡ Err (Syntax left))
+Answers text (Err (fault.Deep place)) = (left : List Placed) × (place_of left ≡ place)
+    × (answer_of text ≡ Err (Deep left))
