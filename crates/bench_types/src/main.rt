@@ -5,7 +5,7 @@ ghost use Rattle.std.specs.Prelude.{◌≡◌, ◌<◌, ◌-◌, ◌^◌, length
 
 use anyhow::{Result, bail};
 use cm_syntax::{Tree, read_tree};
-use cm_types::check_tables;
+use cm_typing::check_tables;
 use std::alloc::Global;
 use std::env;
 

@@ -16,15 +16,15 @@ use Rattle.cm_eval.specs.Invariant.{MeetsInvariant, invariant_holds, declared_in
 use Rattle.cm_syntax.specs.declared.tree.Decl.{Decl}
 use Rattle.cm_syntax.specs.declared.tree.Decl.TheVariants as decl
 use Rattle.cm_syntax.specs.declared.tree.Tree.{Tree}
-use Rattle.cm_types.specs.declared.fault.TypeFault.{TypeFault}
-use Rattle.cm_types.specs.declared.fault.TypeFault.TheVariants.{Rule, Memory}
-use Rattle.cm_types.specs.declared.scope.Scope.{Scope}
-use Rattle.cm_types.specs.declared.scope.Draft.{Draft}
-use Rattle.cm_types.specs.Told.{Told, Broken, Answers, rule, first}
-use Rattle.cm_types.specs.Declarations.{decl_told, decls_told, no_names, no_tables, tables_of, faults_of}
+use Rattle.cm_typing.specs.declared.fault.TypeFault.{TypeFault}
+use Rattle.cm_typing.specs.declared.fault.TypeFault.TheVariants.{Rule, Memory}
+use Rattle.cm_typing.specs.declared.scope.Scope.{Scope}
+use Rattle.cm_typing.specs.declared.scope.Draft.{Draft}
+use Rattle.cm_typing.specs.Told.{Told, Broken, Answers, rule, first}
+use Rattle.cm_typing.specs.Declarations.{decl_told, decls_told, no_names, no_tables, tables_of, faults_of}
 use Rattle.cm_types.specs.LeastValues.{declared_meets, meets_least, with_state, with_states, state_places, least_told}
 use Rattle.cm_types.specs.LeastValues.{or_least, all_faults_of, IsWalked, IsModelOf, LeastMeet}
-use Rattle.cm_types.specs.Rules as rules
+use Rattle.cm_typing.specs.Rules as rules
 use Rattle.cm_types.proofs.Items.{no_more, holds}
 
 all_at : {X : Type 0} (p : X → Bool) (xs : List X) (i : ℕ) (x : X) → list_all p xs ≡ true → slice_get xs i ≡ Some x

@@ -12,11 +12,11 @@ use Rattle.cm_model.specs.declared.ty.Ty.TheVariants as ty
 use Rattle.cm_model.specs.declared.ty.Ty.TheViews.{out-roll-Ty}
 use Rattle.cm_model.specs.declared.ty.Ty.TheOpen.{Ty-F}
 use Rattle.cm_model.specs.declared.ty.Ty.TheFolds.{fold-Ty, fold-roll-Ty}
-use Rattle.cm_types.specs.declared.flat.Base.{Base}
-use Rattle.cm_types.specs.declared.flat.Base.TheVariants.{Sort, Int, Enum, Record}
-use Rattle.cm_types.specs.declared.flat.Flat.{Flat}
-use Rattle.cm_types.specs.Flats.{same_base, same_flat, is_int_base, is_integer_flat, innermost, around, ty_of_flat}
-use Rattle.cm_types.specs.Flats.{option_flat}
+use Rattle.cm_typing.specs.declared.flat.Base.{Base}
+use Rattle.cm_typing.specs.declared.flat.Base.TheVariants.{Sort, Int, Enum, Record}
+use Rattle.cm_typing.specs.declared.flat.Flat.{Flat}
+use Rattle.cm_typing.specs.Flats.{same_base, same_flat, is_int_base, is_integer_flat, innermost, around, ty_of_flat}
+use Rattle.cm_typing.specs.Flats.{option_flat}
 
 -- the outermost layer of a base's type
 abbrev pub layer_of : {X : Type 0} → Base → Ty-F X

@@ -15,15 +15,15 @@ use Rattle.cm_model.specs.declared.body.StateDecl.{StateDecl}
 use Rattle.cm_model.specs.declared.body.Call.{Call}
 use Rattle.cm_syntax.specs.declared.tree.Decl.{Decl}
 use Rattle.cm_syntax.specs.declared.tree.Decl.TheVariants as decl
-use Rattle.cm_types.specs.declared.names.Entry.{Entry}
-use Rattle.cm_types.specs.declared.names.Entry.TheVariants as entry
-use Rattle.cm_types.specs.declared.scope.Scope.{Scope}
-use Rattle.cm_types.specs.declared.scope.Draft.{Draft}
-use Rattle.cm_types.specs.Told.{rule}
-use Rattle.cm_types.specs.Names.{Names, is_taken, more}
-use Rattle.cm_types.specs.Rules as rules
-use Rattle.cm_types.specs.Declarations.{new_name, next_named, variant_told, variants_told, declare, decl_told}
-use Rattle.cm_types.specs.Declarations.{decls_told, tables_in}
+use Rattle.cm_typing.specs.declared.names.Entry.{Entry}
+use Rattle.cm_typing.specs.declared.names.Entry.TheVariants as entry
+use Rattle.cm_typing.specs.declared.scope.Scope.{Scope}
+use Rattle.cm_typing.specs.declared.scope.Draft.{Draft}
+use Rattle.cm_typing.specs.Told.{rule}
+use Rattle.cm_typing.specs.Names.{Names, is_taken, more}
+use Rattle.cm_typing.specs.Rules as rules
+use Rattle.cm_typing.specs.Declarations.{new_name, next_named, variant_told, variants_told, declare, decl_told}
+use Rattle.cm_typing.specs.Declarations.{decls_told, tables_in}
 use Rattle.cm_types.proofs.Items.{Each, no_more, holds, not_true, map_more}
 use Rattle.cm_types.proofs.DistinctLists.{among_more, distinct_more, taken_more, false_if}
 use Rattle.cm_types.proofs.TypedRoutines.{names_in}

@@ -12,9 +12,9 @@ use Rattle.cm_syntax.specs.declared.tree.Cmp.TheFolds.{ind-Expr, fold-roll-Cmp, 
 use Rattle.cm_syntax.specs.declared.tree.Cmp.TheFolds.{fold-roll-Sum, fold-roll-Unary, fold-roll-Post, fold-roll-Set}
 use Rattle.cm_syntax.specs.declared.tree.Cmp.TheFolds.{map-Cmp, map-Expr, map-Primary, map-Sum, map-Unary, map-Post}
 use Rattle.cm_syntax.specs.declared.tree.Cmp.TheFolds.{map-Set}
-use Rattle.cm_types.specs.Expressions.{Meaning, SetMeaning, cmp_step, expr_step, prim_step, sum_step, unary_step}
-use Rattle.cm_types.specs.Expressions.{post_step, set_step, cmp_told, expr_told, prim_told, sum_told, unary_told}
-use Rattle.cm_types.specs.Expressions.{post_told, set_told}
+use Rattle.cm_typing.specs.Expressions.{Meaning, SetMeaning, cmp_step, expr_step, prim_step, sum_step, unary_step}
+use Rattle.cm_typing.specs.Expressions.{post_step, set_step, cmp_told, expr_told, prim_told, sum_told, unary_told}
+use Rattle.cm_typing.specs.Expressions.{post_told, set_told}
 
 pub map_map : {X Y Z : Type 0} (f : X → Y) (g : Y → Z) (xs : List X) → map g (map f xs) ≡ map (λ x. g (f x)) xs
 map_map f g [] = refl

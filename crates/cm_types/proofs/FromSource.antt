@@ -6,7 +6,7 @@ use Rattle.cm_syntax.specs.Spelling as spelled
 use Rattle.cm_syntax.specs.Text.{is_shallow}
 use Rattle.cm_syntax.specs.declared.tree.Tree.{Tree}
 use Rattle.cm_types.specs.Source.{IsRead}
-use Rattle.cm_types.specs.Declarations.{tables_of, faults_of}
+use Rattle.cm_typing.specs.Declarations.{tables_of, faults_of}
 use Rattle.cm_types.proofs.Passing.{Fine, is_named}
 use Rattle.cm_types.proofs.NamedTokens.{all_named}
 use Rattle.cm_types.proofs.SourcedDecls.{tree_gives}

@@ -8,10 +8,10 @@ use Rattle.cm_syntax.specs.declared.tree.Expr.{Expr}
 use Rattle.cm_syntax.specs.declared.tree.Block.{Block}
 use Rattle.cm_syntax.specs.declared.tree.Decl.{Decl}
 use Rattle.cm_syntax.specs.declared.tree.Decl.TheVariants as decl
-use Rattle.cm_types.specs.declared.scope.Scope.{Scope}
-use Rattle.cm_types.specs.Names.{Names}
-use Rattle.cm_types.specs.Expressions.{expr_told}
-use Rattle.cm_types.specs.Statements.{of_block}
+use Rattle.cm_typing.specs.declared.scope.Scope.{Scope}
+use Rattle.cm_typing.specs.Names.{Names}
+use Rattle.cm_typing.specs.Expressions.{expr_told}
+use Rattle.cm_typing.specs.Statements.{of_block}
 use Rattle.cm_types.proofs.TypedRoutines.{names_in}
 
 -- the names that a declaration has, but those of its locals

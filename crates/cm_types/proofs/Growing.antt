@@ -4,9 +4,9 @@ use Rattle.std.proofs.lemmas.List.{length-append}
 use Rattle.cm_model.specs.Tables.{Tables}
 use Rattle.cm_syntax.specs.declared.tree.Decl.{Decl}
 use Rattle.cm_syntax.specs.declared.tree.Decl.TheVariants as decl
-use Rattle.cm_types.specs.declared.scope.Scope.{Scope}
-use Rattle.cm_types.specs.declared.scope.Draft.{Draft}
-use Rattle.cm_types.specs.Declarations.{decl_told, decls_told, tables_in}
+use Rattle.cm_typing.specs.declared.scope.Scope.{Scope}
+use Rattle.cm_typing.specs.declared.scope.Draft.{Draft}
+use Rattle.cm_typing.specs.Declarations.{decl_told, decls_told, tables_in}
 use Rattle.cm_types.proofs.Items.{GoesOn, goes_still, goes_by, goes_further}
 
 pub record Within (d : Draft) (t : Tables) : Type 0 where

@@ -7,7 +7,7 @@ use Rattle.std.proofs.lemmas.Bool.Decides.{eqb_tells}
 use Rattle.std.proofs.lemmas.List.{append_assoc, append-nil}
 use Rattle.std.proofs.lemmas.Option.{slice_get_within}
 use Rattle.cm_model.specs.declared.place.Place.{Place}
-use Rattle.cm_types.specs.Told.{rule}
+use Rattle.cm_typing.specs.Told.{rule}
 
 abbrev pub Each : {X : Type 0} → (X → Type 0) → List X → Type 0
 Each P [] = Unit {0}

@@ -1,6 +1,4 @@
-pub mod Alternatives
 pub mod Checking
-pub mod Counting
 pub mod Deepening
 pub mod DistinctLists
 pub mod DistinctNames
@@ -11,7 +9,6 @@ pub mod Growing
 pub mod Items
 pub mod Measured
 pub mod ModelForms
-pub mod NameLemmas
 pub mod NamedTokens
 pub mod NestedExprs
 pub mod NestedStmts
@@ -19,12 +16,10 @@ pub mod Passing
 pub mod PlainExprs
 pub mod PlainKinds
 pub mod Recorded
-pub mod Samples
 pub mod ShiftsTold
 pub mod SourcedDecls
 pub mod Standing
 pub mod StmtRules
-pub mod Telling
 pub mod TypedArguments
 pub mod TypedDecls
 pub mod TypedExprs
@@ -35,5 +30,4 @@ pub mod TypedRoutines
 pub mod TypedSets
 pub mod TypedStmts
 pub mod Weighing
-pub mod WeightForms
 pub mod WellTyped

@@ -9,9 +9,9 @@ use Rattle.cm_model.specs.Types as types
 use Rattle.cm_model.specs.Types.{is_type_before, is_type_in_use, widths, record_integers, record_options, or_else}
 use Rattle.cm_model.specs.Kinds.{payload_of, payload_in}
 use Rattle.cm_model.proofs.Larger.{IsLarger, still_before}
-use Rattle.cm_types.specs.declared.flat.Flat.{Flat}
-use Rattle.cm_types.specs.Flats.{width_of, holds_option, is_small, innermost, around, ty_of_flat, option_flat}
-use Rattle.cm_types.specs.Flats.{enum_flat, int_flat, sort_flat}
+use Rattle.cm_typing.specs.declared.flat.Flat.{Flat}
+use Rattle.cm_typing.specs.Flats.{width_of, holds_option, is_small, innermost, around, ty_of_flat, option_flat}
+use Rattle.cm_typing.specs.Flats.{enum_flat, int_flat, sort_flat}
 use Rattle.cm_types.proofs.Deepening.{before_around, width_around, integers_around, options_around, out_option}
 use Rattle.cm_types.proofs.Deepening.{fold_base}
 

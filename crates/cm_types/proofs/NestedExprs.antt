@@ -21,12 +21,12 @@ use Rattle.cm_syntax.specs.declared.tree.Cmp.TheFolds.{ind-Expr, fold-roll-Cmp, 
 use Rattle.cm_syntax.specs.declared.tree.Cmp.TheFolds.{fold-roll-Sum, fold-roll-Unary, fold-roll-Post, fold-roll-Set}
 use Rattle.cm_syntax.specs.declared.tree.Cmp.TheFolds.{map-Cmp, map-Expr, map-Primary, map-Sum, map-Unary, map-Post}
 use Rattle.cm_syntax.specs.declared.tree.Cmp.TheFolds.{map-Set}
-use Rattle.cm_types.specs.declared.scope.Scope.{Scope}
-use Rattle.cm_types.specs.Names.{Names, look, it_name}
-use Rattle.cm_types.specs.Flats.{ty_of}
-use Rattle.cm_types.specs.Types.{type_told}
-use Rattle.cm_types.specs.Expressions as told
-use Rattle.cm_types.specs.Expressions.{Meaning, SetMeaning, named, map_told, no_path, path_told, number_in, op_of}
+use Rattle.cm_typing.specs.declared.scope.Scope.{Scope}
+use Rattle.cm_typing.specs.Names.{Names, look, it_name}
+use Rattle.cm_typing.specs.Flats.{ty_of}
+use Rattle.cm_typing.specs.Types.{type_told}
+use Rattle.cm_typing.specs.Expressions as told
+use Rattle.cm_typing.specs.Expressions.{Meaning, SetMeaning, named, map_told, no_path, path_told, number_in, op_of}
 use Rattle.cm_types.proofs.Items.{Each, each_as}
 use Rattle.cm_types.proofs.ModelForms as forms
 use Rattle.cm_types.proofs.ShiftsTold.{none_in_value, none_in_it, none_low, same_low, both_low, IsLow, operands_are_low}

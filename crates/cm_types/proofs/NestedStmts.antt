@@ -15,13 +15,13 @@ use Rattle.cm_syntax.specs.declared.tree.Block.{Block}
 use Rattle.cm_syntax.specs.declared.tree.Stmt.TheViews.{roll-Stmt, roll-Block}
 use Rattle.cm_syntax.specs.declared.tree.Stmt.TheOpen as layer
 use Rattle.cm_syntax.specs.declared.tree.Stmt.TheFolds.{ind-Block, fold-roll-Stmt, fold-roll-Block, map-Stmt, map-Block}
-use Rattle.cm_types.specs.declared.scope.Scope.{Scope}
-use Rattle.cm_types.specs.declared.names.Entry.TheVariants as entry
-use Rattle.cm_types.specs.Names.{Names, more}
-use Rattle.cm_types.specs.Flats.{payload_of}
-use Rattle.cm_types.specs.Expressions.{expr_told, map_told}
-use Rattle.cm_types.specs.Statements.{StmtMeaning, BlockMeaning, cell_told, block_told, stmt_step, block_step}
-use Rattle.cm_types.specs.Statements.{stmt_told, of_block}
+use Rattle.cm_typing.specs.declared.scope.Scope.{Scope}
+use Rattle.cm_typing.specs.declared.names.Entry.TheVariants as entry
+use Rattle.cm_typing.specs.Names.{Names, more}
+use Rattle.cm_typing.specs.Flats.{payload_of}
+use Rattle.cm_typing.specs.Expressions.{expr_told, map_told}
+use Rattle.cm_typing.specs.Statements.{StmtMeaning, BlockMeaning, cell_told, block_told, stmt_step, block_step}
+use Rattle.cm_typing.specs.Statements.{stmt_told, of_block}
 use Rattle.cm_types.proofs.Items.{Each, map_more}
 use Rattle.cm_types.proofs.ModelForms as forms
 use Rattle.cm_types.proofs.ShiftsTold.{IsLow, greatest_more}

@@ -11,23 +11,23 @@ use Rattle.cm_model.specs.declared.body.Expr.TheOpen.{SetField-F}
 use Rattle.cm_model.specs.declared.body.SetField.{SetField, roll-SetField}
 use Rattle.cm_syntax.specs.declared.tree.Expr.{Expr}
 use Rattle.cm_syntax.specs.declared.tree.Cmp.TheOpen as layer
-use Rattle.cm_types.specs.declared.flat.Flat.{Flat}
-use Rattle.cm_types.specs.declared.flat.Kind.{Kind}
-use Rattle.cm_types.specs.declared.names.Entry.{Entry}
-use Rattle.cm_types.specs.declared.names.Entry.TheVariants as entry
-use Rattle.cm_types.specs.declared.scope.Scope.{Scope}
-use Rattle.cm_types.specs.declared.told.Typed.{Typed}
-use Rattle.cm_types.specs.declared.told.Sets.{Sets}
-use Rattle.cm_types.specs.Told.{Told, Broken, rule, fails}
-use Rattle.cm_types.specs.Names.{Names, look, is_taken, it_name, in_invariant, is_state, allowed, found}
-use Rattle.cm_types.specs.Rules as rules
-use Rattle.cm_types.specs.Types.{type_told}
-use Rattle.cm_types.specs.Flats.{wanted, ty_of}
-use Rattle.cm_types.specs.Expressions.{Meaning, named, number_in, it_told, value_named, map_named, map_told}
-use Rattle.cm_types.specs.Expressions.{as_condition, operands_told, type_at, args_told, counted_told, loose_told}
-use Rattle.cm_types.specs.Expressions.{applied_told, apply_told, at_path, expr_at, no_path, path_told, set_field}
-use Rattle.cm_types.specs.Expressions.{set_value, next_set_told, sets_told, no_sets, with_told, shift_told, op_of}
-use Rattle.cm_types.specs.Expressions.{prim_step, post_step, unary_step, sum_step, cmp_step, expr_step, expr_told}
+use Rattle.cm_typing.specs.declared.flat.Flat.{Flat}
+use Rattle.cm_typing.specs.declared.flat.Kind.{Kind}
+use Rattle.cm_typing.specs.declared.names.Entry.{Entry}
+use Rattle.cm_typing.specs.declared.names.Entry.TheVariants as entry
+use Rattle.cm_typing.specs.declared.scope.Scope.{Scope}
+use Rattle.cm_typing.specs.declared.told.Typed.{Typed}
+use Rattle.cm_typing.specs.declared.told.Sets.{Sets}
+use Rattle.cm_typing.specs.Told.{Told, Broken, rule, fails}
+use Rattle.cm_typing.specs.Names.{Names, look, is_taken, it_name, in_invariant, is_state, allowed, found}
+use Rattle.cm_typing.specs.Rules as rules
+use Rattle.cm_typing.specs.Types.{type_told}
+use Rattle.cm_typing.specs.Flats.{wanted, ty_of}
+use Rattle.cm_typing.specs.Expressions.{Meaning, named, number_in, it_told, value_named, map_named, map_told}
+use Rattle.cm_typing.specs.Expressions.{as_condition, operands_told, type_at, args_told, counted_told, loose_told}
+use Rattle.cm_typing.specs.Expressions.{applied_told, apply_told, at_path, expr_at, no_path, path_told, set_field}
+use Rattle.cm_typing.specs.Expressions.{set_value, next_set_told, sets_told, no_sets, with_told, shift_told, op_of}
+use Rattle.cm_typing.specs.Expressions.{prim_step, post_step, unary_step, sum_step, cmp_step, expr_step, expr_told}
 use Rattle.cm_types.proofs.Items.{no_more, all_more, map_more}
 use Rattle.cm_types.proofs.ModelForms as forms
 use Rattle.cm_types.proofs.ExprRules.{Held, HeldSet, bare_cmp, bare_expr, bare_prim, bare_sum, bare_unary, bare_post}

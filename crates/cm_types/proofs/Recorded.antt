@@ -11,12 +11,12 @@ use Rattle.cm_model.specs.Types.{record_integers, holds_option_in, record_option
 use Rattle.cm_model.specs.declared.ty.RecDecl.{RecDecl}
 use Rattle.cm_model.specs.declared.ty.Part.{Part}
 use Rattle.cm_model.proofs.Larger.{count_values, values_kept}
-use Rattle.cm_types.specs.declared.flat.Base.{Base}
-use Rattle.cm_types.specs.declared.flat.Base.TheVariants.{Sort, Int, Enum, Record}
-use Rattle.cm_types.specs.declared.flat.Flat.{Flat}
-use Rattle.cm_types.specs.Flats as flats
-use Rattle.cm_types.specs.Flats.{is_small, widths_of, integers_of, any_option, option_in, record_flat, innermost}
-use Rattle.cm_types.specs.Flats.{ty_of_flat}
+use Rattle.cm_typing.specs.declared.flat.Base.{Base}
+use Rattle.cm_typing.specs.declared.flat.Base.TheVariants.{Sort, Int, Enum, Record}
+use Rattle.cm_typing.specs.declared.flat.Flat.{Flat}
+use Rattle.cm_typing.specs.Flats as flats
+use Rattle.cm_typing.specs.Flats.{is_small, widths_of, integers_of, any_option, option_in, record_flat, innermost}
+use Rattle.cm_typing.specs.Flats.{ty_of_flat}
 use Rattle.cm_types.proofs.Items.{GoesOn, stands_behind}
 use Rattle.cm_types.proofs.Deepening.{fold_base, width_around, integers_around, options_around}
 use Rattle.cm_types.proofs.Measured.{IsFlat, is_before, in_use}

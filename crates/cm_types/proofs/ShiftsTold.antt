@@ -6,19 +6,19 @@ use Rattle.cm_model.specs.declared.place.Place.{Place}
 use Rattle.cm_model.specs.declared.body.Expr.{Expr as Made}
 use Rattle.cm_model.specs.declared.body.Expr.TheOpen.{SetField-F}
 use Rattle.cm_model.specs.declared.body.SetField.{SetField, roll-SetField}
-use Rattle.cm_types.specs.declared.flat.Flat.{Flat}
-use Rattle.cm_types.specs.declared.flat.Kind.{Kind}
-use Rattle.cm_types.specs.declared.names.Entry.{Entry}
-use Rattle.cm_types.specs.declared.names.Entry.TheVariants as entry
-use Rattle.cm_types.specs.declared.scope.Scope.{Scope}
-use Rattle.cm_types.specs.declared.told.Typed.{Typed}
-use Rattle.cm_types.specs.declared.told.Sets.{Sets}
-use Rattle.cm_types.specs.Told.{Broken}
-use Rattle.cm_types.specs.Names.{Names, in_invariant}
-use Rattle.cm_types.specs.Rules as rules
-use Rattle.cm_types.specs.Expressions.{Meaning, SetMeaning, it_told, value_named, operands_told, args_told}
-use Rattle.cm_types.specs.Expressions.{counted_told, loose_told, into_told, applied_told, apply_told, expr_at}
-use Rattle.cm_types.specs.Expressions.{set_field, next_set_told, sets_told, no_sets, with_told}
+use Rattle.cm_typing.specs.declared.flat.Flat.{Flat}
+use Rattle.cm_typing.specs.declared.flat.Kind.{Kind}
+use Rattle.cm_typing.specs.declared.names.Entry.{Entry}
+use Rattle.cm_typing.specs.declared.names.Entry.TheVariants as entry
+use Rattle.cm_typing.specs.declared.scope.Scope.{Scope}
+use Rattle.cm_typing.specs.declared.told.Typed.{Typed}
+use Rattle.cm_typing.specs.declared.told.Sets.{Sets}
+use Rattle.cm_typing.specs.Told.{Broken}
+use Rattle.cm_typing.specs.Names.{Names, in_invariant}
+use Rattle.cm_typing.specs.Rules as rules
+use Rattle.cm_typing.specs.Expressions.{Meaning, SetMeaning, it_told, value_named, operands_told, args_told}
+use Rattle.cm_typing.specs.Expressions.{counted_told, loose_told, into_told, applied_told, apply_told, expr_at}
+use Rattle.cm_typing.specs.Expressions.{set_field, next_set_told, sets_told, no_sets, with_told}
 use Rattle.cm_types.proofs.Items.{Each, map_more}
 use Rattle.cm_types.proofs.ModelForms as forms
 

@@ -17,8 +17,8 @@ use Rattle.cm_syntax.specs.declared.tree.Block.{Block}
 use Rattle.cm_syntax.specs.declared.tree.Decl.{Decl}
 use Rattle.cm_syntax.specs.declared.tree.Decl.TheVariants as decl
 use Rattle.cm_syntax.specs.declared.tree.Tree.{Tree}
-use Rattle.cm_types.specs.Expressions.{expr_told}
-use Rattle.cm_types.specs.Statements.{of_block}
+use Rattle.cm_typing.specs.Expressions.{expr_told}
+use Rattle.cm_typing.specs.Statements.{of_block}
 use Rattle.cm_types.proofs.Items.{Each}
 use Rattle.cm_types.proofs.Passing.{Fine, opened, closed, name_passed, num_passes, names_passed, type_passes}
 use Rattle.cm_types.proofs.Passing.{part_gives, Gives, after_gives, listed_gives}

@@ -15,13 +15,13 @@ use Rattle.cm_model.specs.declared.ty.RecDecl.{RecDecl}
 use Rattle.cm_model.specs.declared.ty.Part.{Part}
 use Rattle.cm_model.specs.declared.body.StateDecl.{StateDecl}
 use Rattle.cm_model.specs.declared.body.Call.{Call}
-use Rattle.cm_types.specs.declared.flat.Flat.{Flat}
-use Rattle.cm_types.specs.declared.names.Entry.{Entry}
-use Rattle.cm_types.specs.declared.names.Entry.TheVariants as entry
-use Rattle.cm_types.specs.declared.scope.Scope.{Scope}
-use Rattle.cm_types.specs.Names.{Names, look, more, allowed, found, in_invariant, is_state}
-use Rattle.cm_types.specs.Flats.{ty_of, ty_of_flat}
-use Rattle.cm_types.specs.Expressions.{named}
+use Rattle.cm_typing.specs.declared.flat.Flat.{Flat}
+use Rattle.cm_typing.specs.declared.names.Entry.{Entry}
+use Rattle.cm_typing.specs.declared.names.Entry.TheVariants as entry
+use Rattle.cm_typing.specs.declared.scope.Scope.{Scope}
+use Rattle.cm_typing.specs.Names.{Names, look, more, allowed, found, in_invariant, is_state}
+use Rattle.cm_typing.specs.Flats.{ty_of, ty_of_flat}
+use Rattle.cm_typing.specs.Expressions.{named}
 use Rattle.cm_types.proofs.Items.{Each, each_as, each_more, map_more, length_map, stands_behind, still_at}
 use Rattle.cm_types.proofs.Measured.{IsFlat, wider}
 

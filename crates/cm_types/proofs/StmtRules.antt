@@ -7,12 +7,12 @@ use Rattle.cm_syntax.specs.declared.tree.Stmt.{Stmt}
 use Rattle.cm_syntax.specs.declared.tree.Block.{Block}
 use Rattle.cm_syntax.specs.declared.tree.Stmt.TheOpen as layer
 use Rattle.cm_syntax.specs.declared.tree.Stmt.TheFolds.{fold-roll-Stmt, fold-roll-Block, ind-Block, map-Stmt, map-Block}
-use Rattle.cm_types.specs.declared.flat.Flat.{Flat}
-use Rattle.cm_types.specs.declared.scope.Scope.{Scope}
-use Rattle.cm_types.specs.Told.{Told}
-use Rattle.cm_types.specs.Names.{Names}
-use Rattle.cm_types.specs.Types.{type_told, type_step}
-use Rattle.cm_types.specs.Statements.{StmtMeaning, BlockMeaning, stmt_step, block_step, stmt_told, of_block}
+use Rattle.cm_typing.specs.declared.flat.Flat.{Flat}
+use Rattle.cm_typing.specs.declared.scope.Scope.{Scope}
+use Rattle.cm_typing.specs.Told.{Told}
+use Rattle.cm_typing.specs.Names.{Names}
+use Rattle.cm_typing.specs.Types.{type_told, type_step}
+use Rattle.cm_typing.specs.Statements.{StmtMeaning, BlockMeaning, stmt_step, block_step, stmt_told, of_block}
 use Rattle.cm_types.proofs.ExprRules.{map_map}
 
 module _ {AS AB BS BB CS CB : Type 0} (fs : AS → BS) (fb : AB → BB) (gs : BS → CS) (gb : BB → CB) where

@@ -13,17 +13,17 @@ use Rattle.cm_model.specs.declared.ty.RecDecl.{RecDecl}
 use Rattle.cm_model.specs.declared.body.Call.{Call}
 use Rattle.cm_model.specs.declared.body.Expr.{Expr as Made}
 use Rattle.cm_model.specs.declared.body.Expr.TheVariants as expr
-use Rattle.cm_types.specs.declared.flat.Flat.{Flat}
-use Rattle.cm_types.specs.declared.flat.Kind.TheVariants as kind
-use Rattle.cm_types.specs.declared.names.Entry.{Entry}
-use Rattle.cm_types.specs.declared.names.Entry.TheVariants as entry
-use Rattle.cm_types.specs.declared.scope.Scope.{Scope}
-use Rattle.cm_types.specs.Told.{Broken, rule, fails}
-use Rattle.cm_types.specs.Names.{Names, in_invariant}
-use Rattle.cm_types.specs.Rules as rules
-use Rattle.cm_types.specs.Flats.{is_bool, is_integer, wanted, kind_of, int_flat}
-use Rattle.cm_types.specs.Expressions.{Meaning, typed, as_condition, operands_told, type_at, args_told, counted_told}
-use Rattle.cm_types.specs.Expressions.{loose_told, into_told, make_told, call_told, applied_told, apply_told}
+use Rattle.cm_typing.specs.declared.flat.Flat.{Flat}
+use Rattle.cm_typing.specs.declared.flat.Kind.TheVariants as kind
+use Rattle.cm_typing.specs.declared.names.Entry.{Entry}
+use Rattle.cm_typing.specs.declared.names.Entry.TheVariants as entry
+use Rattle.cm_typing.specs.declared.scope.Scope.{Scope}
+use Rattle.cm_typing.specs.Told.{Broken, rule, fails}
+use Rattle.cm_typing.specs.Names.{Names, in_invariant}
+use Rattle.cm_typing.specs.Rules as rules
+use Rattle.cm_typing.specs.Flats.{is_bool, is_integer, wanted, kind_of, int_flat}
+use Rattle.cm_typing.specs.Expressions.{Meaning, typed, as_condition, operands_told, type_at, args_told, counted_told}
+use Rattle.cm_typing.specs.Expressions.{loose_told, into_told, make_told, call_told, applied_told, apply_told}
 use Rattle.cm_types.proofs.Items.{no_more, holds, length_map}
 use Rattle.cm_types.proofs.ModelForms.{of_Make, of_Into, of_Apply}
 use Rattle.cm_types.proofs.Measured.{int_fits}

@@ -24,18 +24,18 @@ use Rattle.cm_syntax.specs.declared.tree.Part.{Part}
 use Rattle.cm_syntax.specs.declared.tree.«Type».{«Type» as TypeTree}
 use Rattle.cm_syntax.specs.declared.tree.Expr.{Expr}
 use Rattle.cm_syntax.specs.declared.tree.Block.{Block}
-use Rattle.cm_types.specs.declared.flat.Flat.{Flat}
-use Rattle.cm_types.specs.declared.names.Entry.{Entry}
-use Rattle.cm_types.specs.declared.names.Entry.TheVariants as entry
-use Rattle.cm_types.specs.declared.scope.Scope.{Scope}
-use Rattle.cm_types.specs.declared.told.FoundMap.{FoundMap}
-use Rattle.cm_types.specs.Told.{rule}
-use Rattle.cm_types.specs.Rules as rules
-use Rattle.cm_types.specs.Flats.{is_bool, is_key, ty_of, ty_of_flat}
-use Rattle.cm_types.specs.Types.{type_told}
-use Rattle.cm_types.specs.Expressions.{as_condition, expr_told}
-use Rattle.cm_types.specs.Declarations.{new_name, next_named, declare, variants_told, key_of, map_types_told}
-use Rattle.cm_types.specs.Declarations.{invariant_told, inside, routine_told}
+use Rattle.cm_typing.specs.declared.flat.Flat.{Flat}
+use Rattle.cm_typing.specs.declared.names.Entry.{Entry}
+use Rattle.cm_typing.specs.declared.names.Entry.TheVariants as entry
+use Rattle.cm_typing.specs.declared.scope.Scope.{Scope}
+use Rattle.cm_typing.specs.declared.told.FoundMap.{FoundMap}
+use Rattle.cm_typing.specs.Told.{rule}
+use Rattle.cm_typing.specs.Rules as rules
+use Rattle.cm_typing.specs.Flats.{is_bool, is_key, ty_of, ty_of_flat}
+use Rattle.cm_typing.specs.Types.{type_told}
+use Rattle.cm_typing.specs.Expressions.{as_condition, expr_told}
+use Rattle.cm_typing.specs.Declarations.{new_name, next_named, declare, variants_told, key_of, map_types_told}
+use Rattle.cm_typing.specs.Declarations.{invariant_told, inside, routine_told}
 use Rattle.cm_types.proofs.Items.{each_more, GoesOn, no_more, holds, length_map}
 use Rattle.cm_types.proofs.DistinctLists.{taken_more}
 use Rattle.cm_types.proofs.Measured.{IsFlat, in_use, option_is}

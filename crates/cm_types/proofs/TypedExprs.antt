@@ -21,23 +21,23 @@ use Rattle.cm_syntax.specs.declared.tree.Relation.{Relation}
 use Rattle.cm_syntax.specs.declared.tree.Relation.TheVariants as relation
 use Rattle.cm_syntax.specs.declared.tree.Expr.{Expr}
 use Rattle.cm_syntax.specs.declared.tree.Cmp.TheOpen as layer
-use Rattle.cm_types.specs.declared.flat.Flat.{Flat}
-use Rattle.cm_types.specs.declared.flat.Kind.{Kind}
-use Rattle.cm_types.specs.declared.flat.Kind.TheVariants as kind
-use Rattle.cm_types.specs.declared.names.Entry.{Entry}
-use Rattle.cm_types.specs.declared.names.Entry.TheVariants as entry
-use Rattle.cm_types.specs.declared.scope.Scope.{Scope}
-use Rattle.cm_types.specs.declared.told.Typed.{Typed}
-use Rattle.cm_types.specs.declared.told.FoundMap.{FoundMap}
-use Rattle.cm_types.specs.Told.{rule}
-use Rattle.cm_types.specs.Names.{Names, look, it_name}
-use Rattle.cm_types.specs.Rules as rules
-use Rattle.cm_types.specs.Types.{type_told}
-use Rattle.cm_types.specs.Flats.{same_flat, enum_flat, kind_of, value_of, is_value, is_bool, is_integer}
-use Rattle.cm_types.specs.Flats.{is_integer_flat, are_equal_kinds, wanted, option_flat, option_of, ty_of, ty_of_flat}
-use Rattle.cm_types.specs.Expressions.{named, number_in, truth, it_told, value_named, map_named, map_told, as_condition}
-use Rattle.cm_types.specs.Expressions.{operands_told, at_path, no_path, path_told, shift_told, op_of, compared}
-use Rattle.cm_types.specs.Expressions.{prim_step, post_step, unary_step, sum_step, cmp_step, expr_step, expr_told}
+use Rattle.cm_typing.specs.declared.flat.Flat.{Flat}
+use Rattle.cm_typing.specs.declared.flat.Kind.{Kind}
+use Rattle.cm_typing.specs.declared.flat.Kind.TheVariants as kind
+use Rattle.cm_typing.specs.declared.names.Entry.{Entry}
+use Rattle.cm_typing.specs.declared.names.Entry.TheVariants as entry
+use Rattle.cm_typing.specs.declared.scope.Scope.{Scope}
+use Rattle.cm_typing.specs.declared.told.Typed.{Typed}
+use Rattle.cm_typing.specs.declared.told.FoundMap.{FoundMap}
+use Rattle.cm_typing.specs.Told.{rule}
+use Rattle.cm_typing.specs.Names.{Names, look, it_name}
+use Rattle.cm_typing.specs.Rules as rules
+use Rattle.cm_typing.specs.Types.{type_told}
+use Rattle.cm_typing.specs.Flats.{same_flat, enum_flat, kind_of, value_of, is_value, is_bool, is_integer}
+use Rattle.cm_typing.specs.Flats.{is_integer_flat, are_equal_kinds, wanted, option_flat, option_of, ty_of, ty_of_flat}
+use Rattle.cm_typing.specs.Expressions.{named, number_in, truth, it_told, value_named, map_named, map_told}
+use Rattle.cm_typing.specs.Expressions.{as_condition, operands_told, at_path, no_path, path_told, shift_told, op_of}
+use Rattle.cm_typing.specs.Expressions.{compared, prim_step, post_step, unary_step, sum_step, cmp_step, expr_step, expr_told}
 use Rattle.cm_types.proofs.Items.{no_more, holds, length_map}
 use Rattle.cm_types.proofs.ModelForms as forms
 use Rattle.cm_types.proofs.Deepening.{same_deep, integer_deep}

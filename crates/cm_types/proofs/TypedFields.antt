@@ -10,20 +10,21 @@ use Rattle.cm_model.specs.Kinds as kinds
 use Rattle.cm_model.specs.declared.place.Place.{Place}
 use Rattle.cm_model.specs.declared.ty.Ty.{Ty}
 use Rattle.cm_model.specs.declared.ty.Ty.TheVariants as ty
-use Rattle.cm_types.specs.declared.flat.Base.{Base}
-use Rattle.cm_types.specs.declared.flat.Base.TheVariants as base
-use Rattle.cm_types.specs.declared.flat.Flat.{Flat}
-use Rattle.cm_types.specs.declared.flat.Kind.{Kind}
-use Rattle.cm_types.specs.declared.flat.Kind.TheVariants as kind
-use Rattle.cm_types.specs.declared.names.Entry.{Entry}
-use Rattle.cm_types.specs.declared.names.Entry.TheVariants as entry
-use Rattle.cm_types.specs.declared.scope.Scope.{Scope}
-use Rattle.cm_types.specs.declared.told.Typed.{Typed}
-use Rattle.cm_types.specs.declared.told.FieldPath.{FieldPath}
-use Rattle.cm_types.specs.declared.told.FoundField.{FoundField}
-use Rattle.cm_types.specs.Names.{Names, look}
-use Rattle.cm_types.specs.Flats.{kind_of, ty_of_flat}
-use Rattle.cm_types.specs.Expressions.{field_entry, field_in, fields_of, field_of, path_told, no_path, expr_at, at_path}
+use Rattle.cm_typing.specs.declared.flat.Base.{Base}
+use Rattle.cm_typing.specs.declared.flat.Base.TheVariants as base
+use Rattle.cm_typing.specs.declared.flat.Flat.{Flat}
+use Rattle.cm_typing.specs.declared.flat.Kind.{Kind}
+use Rattle.cm_typing.specs.declared.flat.Kind.TheVariants as kind
+use Rattle.cm_typing.specs.declared.names.Entry.{Entry}
+use Rattle.cm_typing.specs.declared.names.Entry.TheVariants as entry
+use Rattle.cm_typing.specs.declared.scope.Scope.{Scope}
+use Rattle.cm_typing.specs.declared.told.Typed.{Typed}
+use Rattle.cm_typing.specs.declared.told.FieldPath.{FieldPath}
+use Rattle.cm_typing.specs.declared.told.FoundField.{FoundField}
+use Rattle.cm_typing.specs.Names.{Names, look}
+use Rattle.cm_typing.specs.Flats.{kind_of, ty_of_flat}
+use Rattle.cm_typing.specs.Expressions.{field_entry, field_in, fields_of, field_of, path_told, no_path, expr_at}
+use Rattle.cm_typing.specs.Expressions.{at_path}
 use Rattle.cm_types.proofs.Items.{no_more}
 use Rattle.cm_types.proofs.Deepening.{suc_zero}
 use Rattle.cm_types.proofs.ModelForms.{of_Fields}

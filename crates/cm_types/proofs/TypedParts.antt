@@ -11,22 +11,22 @@ use Rattle.cm_model.specs.declared.ty.EnumDecl.{EnumDecl}
 use Rattle.cm_model.specs.declared.body.Expr.{Expr as Made}
 use Rattle.cm_syntax.specs.declared.tree.«Type».{«Type» as TypeTree}
 use Rattle.cm_syntax.specs.declared.tree.«Type».TheOpen as type_layer
-use Rattle.cm_types.specs.declared.flat.Base.{Base}
-use Rattle.cm_types.specs.declared.flat.Base.TheVariants as base
-use Rattle.cm_types.specs.declared.flat.Flat.{Flat}
-use Rattle.cm_types.specs.declared.flat.Kind.{Kind}
-use Rattle.cm_types.specs.declared.flat.Kind.TheVariants as kind
-use Rattle.cm_types.specs.declared.names.Entry.{Entry}
-use Rattle.cm_types.specs.declared.names.Entry.TheVariants as entry
-use Rattle.cm_types.specs.declared.told.Typed.{Typed}
-use Rattle.cm_types.specs.Told.{rule}
-use Rattle.cm_types.specs.Names.{Names, look}
-use Rattle.cm_types.specs.Rules as rules
-use Rattle.cm_types.specs.Flats.{same_base, same_flat, width_of, is_small, bool_flat, bool_kind, is_value, is_bool}
-use Rattle.cm_types.specs.Flats.{is_integer, agree, wanted, option_flat, option_of, ty_of_flat, sort_flat, int_flat}
-use Rattle.cm_types.specs.Flats.{enum_flat}
-use Rattle.cm_types.specs.Types.{type_named, type_step, type_told}
-use Rattle.cm_types.specs.Expressions.{typed}
+use Rattle.cm_typing.specs.declared.flat.Base.{Base}
+use Rattle.cm_typing.specs.declared.flat.Base.TheVariants as base
+use Rattle.cm_typing.specs.declared.flat.Flat.{Flat}
+use Rattle.cm_typing.specs.declared.flat.Kind.{Kind}
+use Rattle.cm_typing.specs.declared.flat.Kind.TheVariants as kind
+use Rattle.cm_typing.specs.declared.names.Entry.{Entry}
+use Rattle.cm_typing.specs.declared.names.Entry.TheVariants as entry
+use Rattle.cm_typing.specs.declared.told.Typed.{Typed}
+use Rattle.cm_typing.specs.Told.{rule}
+use Rattle.cm_typing.specs.Names.{Names, look}
+use Rattle.cm_typing.specs.Rules as rules
+use Rattle.cm_typing.specs.Flats.{same_base, same_flat, width_of, is_small, bool_flat, bool_kind, is_value, is_bool}
+use Rattle.cm_typing.specs.Flats.{is_integer, agree, wanted, option_flat, option_of, ty_of_flat, sort_flat, int_flat}
+use Rattle.cm_typing.specs.Flats.{enum_flat}
+use Rattle.cm_typing.specs.Types.{type_named, type_step, type_told}
+use Rattle.cm_typing.specs.Expressions.{typed}
 use Rattle.cm_types.proofs.Items.{no_more, holds, nat_sym}
 use Rattle.cm_types.proofs.Deepening.{same_deep, integer_deep, option_deep}
 use Rattle.cm_types.proofs.Measured.{IsFlat, in_use, option_fits, sort_fits, int_fits, enum_fits}

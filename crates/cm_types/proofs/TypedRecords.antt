@@ -16,18 +16,18 @@ use Rattle.cm_model.specs.declared.ty.Ty.TheVariants as ty
 use Rattle.cm_model.specs.declared.ty.Part.{Part as ModelPart}
 use Rattle.cm_model.specs.declared.ty.RecDecl.{RecDecl}
 use Rattle.cm_syntax.specs.declared.tree.Part.{Part}
-use Rattle.cm_types.specs.declared.flat.Base.TheVariants as base
-use Rattle.cm_types.specs.declared.flat.Flat.{Flat}
-use Rattle.cm_types.specs.declared.names.Entry.{Entry}
-use Rattle.cm_types.specs.declared.names.Entry.TheVariants as entry
-use Rattle.cm_types.specs.declared.scope.Scope.{Scope}
-use Rattle.cm_types.specs.declared.told.Params.{Params}
-use Rattle.cm_types.specs.Told.{rule}
-use Rattle.cm_types.specs.Names.{Names, is_taken}
-use Rattle.cm_types.specs.Rules as rules
-use Rattle.cm_types.specs.Flats.{is_small, widths_of, integers_of, record_flat, ty_of, ty_of_flat}
-use Rattle.cm_types.specs.Types.{type_told}
-use Rattle.cm_types.specs.Declarations.{model_part, no_params, field_told, fields_told}
+use Rattle.cm_typing.specs.declared.flat.Base.TheVariants as base
+use Rattle.cm_typing.specs.declared.flat.Flat.{Flat}
+use Rattle.cm_typing.specs.declared.names.Entry.{Entry}
+use Rattle.cm_typing.specs.declared.names.Entry.TheVariants as entry
+use Rattle.cm_typing.specs.declared.scope.Scope.{Scope}
+use Rattle.cm_typing.specs.declared.told.Params.{Params}
+use Rattle.cm_typing.specs.Told.{rule}
+use Rattle.cm_typing.specs.Names.{Names, is_taken}
+use Rattle.cm_typing.specs.Rules as rules
+use Rattle.cm_typing.specs.Flats.{is_small, widths_of, integers_of, record_flat, ty_of, ty_of_flat}
+use Rattle.cm_typing.specs.Types.{type_told}
+use Rattle.cm_typing.specs.Declarations.{model_part, no_params, field_told, fields_told}
 use Rattle.cm_types.proofs.Items.{Each, each_as, each_more, GoesOn, no_more, holds, not_true, map_more, length_map}
 use Rattle.cm_types.proofs.Items.{still_at, stands_behind}
 use Rattle.cm_types.proofs.Deepening.{out_base}

@@ -18,21 +18,21 @@ use Rattle.cm_model.specs.declared.ty.Part.{Part as ModelPart}
 use Rattle.cm_syntax.specs.declared.tree.Part.{Part}
 use Rattle.cm_syntax.specs.declared.tree.«Type».{«Type» as TypeTree}
 use Rattle.cm_syntax.specs.declared.tree.Block.{Block}
-use Rattle.cm_types.specs.declared.flat.Flat.{Flat}
-use Rattle.cm_types.specs.declared.names.Entry.{Entry}
-use Rattle.cm_types.specs.declared.names.Entry.TheVariants as entry
-use Rattle.cm_types.specs.declared.scope.Scope.{Scope}
-use Rattle.cm_types.specs.declared.told.Params.{Params}
-use Rattle.cm_types.specs.declared.told.Routine.{Routine}
-use Rattle.cm_types.specs.Told.{rule}
-use Rattle.cm_types.specs.Names.{Names, is_taken}
-use Rattle.cm_types.specs.Rules as rules
-use Rattle.cm_types.specs.Flats as flats
-use Rattle.cm_types.specs.Flats.{widths_of, integers_of, are_parameters, ty_of, ty_of_flat}
-use Rattle.cm_types.specs.Types.{type_told}
-use Rattle.cm_types.specs.Statements.{unbound, of_block}
-use Rattle.cm_types.specs.Declarations.{model_part, no_params, params_told, param_told, all_params_told, returning_told}
-use Rattle.cm_types.specs.Declarations.{weight_told, body_told, reply_in, routine_told}
+use Rattle.cm_typing.specs.declared.flat.Flat.{Flat}
+use Rattle.cm_typing.specs.declared.names.Entry.{Entry}
+use Rattle.cm_typing.specs.declared.names.Entry.TheVariants as entry
+use Rattle.cm_typing.specs.declared.scope.Scope.{Scope}
+use Rattle.cm_typing.specs.declared.told.Params.{Params}
+use Rattle.cm_typing.specs.declared.told.Routine.{Routine}
+use Rattle.cm_typing.specs.Told.{rule}
+use Rattle.cm_typing.specs.Names.{Names, is_taken}
+use Rattle.cm_typing.specs.Rules as rules
+use Rattle.cm_typing.specs.Flats as flats
+use Rattle.cm_typing.specs.Flats.{widths_of, integers_of, are_parameters, ty_of, ty_of_flat}
+use Rattle.cm_typing.specs.Types.{type_told}
+use Rattle.cm_typing.specs.Statements.{unbound, of_block}
+use Rattle.cm_typing.specs.Declarations.{model_part, no_params, params_told, param_told, all_params_told}
+use Rattle.cm_typing.specs.Declarations.{returning_told, weight_told, body_told, reply_in, routine_told}
 use Rattle.cm_types.proofs.Items.{no_more, holds, not_true, or_false, map_more, length_map}
 use Rattle.cm_types.proofs.DistinctLists.{taken_is, distinct_more, apart_more, false_if}
 use Rattle.cm_types.proofs.Measured.{IsFlat, in_use}

@@ -11,18 +11,18 @@ use Rattle.cm_model.specs.Kinds as kinds
 use Rattle.cm_model.specs.declared.ty.Ty.{Ty}
 use Rattle.cm_model.specs.declared.body.Expr.TheVariants as expr
 use Rattle.cm_model.specs.declared.body.SetField.{SetField, roll-SetField}
-use Rattle.cm_types.specs.declared.flat.Flat.{Flat}
-use Rattle.cm_types.specs.declared.flat.Kind.{Kind}
-use Rattle.cm_types.specs.declared.flat.Kind.TheVariants as kind
-use Rattle.cm_types.specs.declared.scope.Scope.{Scope}
-use Rattle.cm_types.specs.declared.told.Typed.{Typed}
-use Rattle.cm_types.specs.declared.told.Sets.{Sets}
-use Rattle.cm_types.specs.Told.{rule}
-use Rattle.cm_types.specs.Names.{Names}
-use Rattle.cm_types.specs.Rules as rules
-use Rattle.cm_types.specs.Flats.{wanted, ty_of_flat}
-use Rattle.cm_types.specs.Expressions.{SetMeaning, typed, fields_of, field_of, is_among, is_new, set_field, set_value}
-use Rattle.cm_types.specs.Expressions.{next_set_told, sets_told, no_sets, is_record_base, record_kind, with_told}
+use Rattle.cm_typing.specs.declared.flat.Flat.{Flat}
+use Rattle.cm_typing.specs.declared.flat.Kind.{Kind}
+use Rattle.cm_typing.specs.declared.flat.Kind.TheVariants as kind
+use Rattle.cm_typing.specs.declared.scope.Scope.{Scope}
+use Rattle.cm_typing.specs.declared.told.Typed.{Typed}
+use Rattle.cm_typing.specs.declared.told.Sets.{Sets}
+use Rattle.cm_typing.specs.Told.{rule}
+use Rattle.cm_typing.specs.Names.{Names}
+use Rattle.cm_typing.specs.Rules as rules
+use Rattle.cm_typing.specs.Flats.{wanted, ty_of_flat}
+use Rattle.cm_typing.specs.Expressions.{SetMeaning, typed, fields_of, field_of, is_among, is_new, set_field, set_value}
+use Rattle.cm_typing.specs.Expressions.{next_set_told, sets_told, no_sets, is_record_base, record_kind, with_told}
 use Rattle.cm_types.proofs.Items.{no_more, holds, not_true, or_false, nat_sym, map_more, length_map}
 use Rattle.cm_types.proofs.ModelForms as forms
 use Rattle.cm_types.proofs.Measured.{IsFlat}

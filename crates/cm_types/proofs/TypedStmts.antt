@@ -15,24 +15,24 @@ use Rattle.cm_model.specs.declared.body.Stmt.TheFolds.{fold-Stmt}
 use Rattle.cm_syntax.specs.declared.tree.Expr.{Expr}
 use Rattle.cm_syntax.specs.declared.tree.Block.{Block}
 use Rattle.cm_syntax.specs.declared.tree.Stmt.TheOpen as layer
-use Rattle.cm_types.specs.declared.flat.Flat.{Flat}
-use Rattle.cm_types.specs.declared.flat.Kind.{Kind}
-use Rattle.cm_types.specs.declared.flat.Kind.TheVariants as kind
-use Rattle.cm_types.specs.declared.names.Entry.{Entry}
-use Rattle.cm_types.specs.declared.names.Entry.TheVariants as entry
-use Rattle.cm_types.specs.declared.scope.Scope.{Scope}
-use Rattle.cm_types.specs.declared.told.Typed.{Typed}
-use Rattle.cm_types.specs.declared.told.Done.{Done}
-use Rattle.cm_types.specs.declared.told.Steps.{Steps}
-use Rattle.cm_types.specs.declared.told.FoundCell.{FoundCell}
-use Rattle.cm_types.specs.Told.{rule}
-use Rattle.cm_types.specs.Names.{Names, more}
-use Rattle.cm_types.specs.Rules as rules
-use Rattle.cm_types.specs.Flats.{is_value, is_bool, value_of, wanted, payload_of, ty_of_flat}
-use Rattle.cm_types.specs.Expressions.{named, map_told, expr_told}
-use Rattle.cm_types.specs.Statements.{StmtMeaning, BlockMeaning, bound, cell_named, cell_told, block_told}
-use Rattle.cm_types.specs.Statements.{condition_told, value_told, some_told, stmt_alone, stmt_step, block_step}
-use Rattle.cm_types.specs.Statements.{of_block}
+use Rattle.cm_typing.specs.declared.flat.Flat.{Flat}
+use Rattle.cm_typing.specs.declared.flat.Kind.{Kind}
+use Rattle.cm_typing.specs.declared.flat.Kind.TheVariants as kind
+use Rattle.cm_typing.specs.declared.names.Entry.{Entry}
+use Rattle.cm_typing.specs.declared.names.Entry.TheVariants as entry
+use Rattle.cm_typing.specs.declared.scope.Scope.{Scope}
+use Rattle.cm_typing.specs.declared.told.Typed.{Typed}
+use Rattle.cm_typing.specs.declared.told.Done.{Done}
+use Rattle.cm_typing.specs.declared.told.Steps.{Steps}
+use Rattle.cm_typing.specs.declared.told.FoundCell.{FoundCell}
+use Rattle.cm_typing.specs.Told.{rule}
+use Rattle.cm_typing.specs.Names.{Names, more}
+use Rattle.cm_typing.specs.Rules as rules
+use Rattle.cm_typing.specs.Flats.{is_value, is_bool, value_of, wanted, payload_of, ty_of_flat}
+use Rattle.cm_typing.specs.Expressions.{named, map_told, expr_told}
+use Rattle.cm_typing.specs.Statements.{StmtMeaning, BlockMeaning, bound, cell_named, cell_told, block_told}
+use Rattle.cm_typing.specs.Statements.{condition_told, value_told, some_told, stmt_alone, stmt_step, block_step}
+use Rattle.cm_typing.specs.Statements.{of_block}
 use Rattle.cm_types.proofs.Items.{no_more, holds, not_true, map_more}
 use Rattle.cm_types.proofs.ModelForms as forms
 use Rattle.cm_types.proofs.Measured.{IsFlat, payload_flat, payload_fits}

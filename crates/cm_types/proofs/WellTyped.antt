@@ -26,18 +26,18 @@ use Rattle.cm_syntax.specs.declared.tree.Block.{Block}
 use Rattle.cm_syntax.specs.declared.tree.Decl.{Decl}
 use Rattle.cm_syntax.specs.declared.tree.Decl.TheVariants as decl
 use Rattle.cm_syntax.specs.declared.tree.Tree.{Tree}
-use Rattle.cm_types.specs.declared.names.Entry.{Entry}
-use Rattle.cm_types.specs.declared.names.Entry.TheVariants as entry
-use Rattle.cm_types.specs.declared.scope.Scope.{Scope}
-use Rattle.cm_types.specs.declared.scope.Draft.{Draft}
-use Rattle.cm_types.specs.Told.{rule}
-use Rattle.cm_types.specs.Rules as rules
-use Rattle.cm_types.specs.Flats.{is_small, widths_of, integers_of, record_flat, record_of, ty_of}
-use Rattle.cm_types.specs.Types.{type_told}
-use Rattle.cm_types.specs.Expressions.{number_in}
-use Rattle.cm_types.specs.Declarations.{next_named, is_range, declare, fields_told, no_params, key_of, map_types_told}
-use Rattle.cm_types.specs.Declarations.{map_entry, invariant_told, inside, routine_told, decl_told, decls_told}
-use Rattle.cm_types.specs.Declarations.{no_names, no_tables, tables_in, tables_of, faults_of}
+use Rattle.cm_typing.specs.declared.names.Entry.{Entry}
+use Rattle.cm_typing.specs.declared.names.Entry.TheVariants as entry
+use Rattle.cm_typing.specs.declared.scope.Scope.{Scope}
+use Rattle.cm_typing.specs.declared.scope.Draft.{Draft}
+use Rattle.cm_typing.specs.Told.{rule}
+use Rattle.cm_typing.specs.Rules as rules
+use Rattle.cm_typing.specs.Flats.{is_small, widths_of, integers_of, record_flat, record_of, ty_of}
+use Rattle.cm_typing.specs.Types.{type_told}
+use Rattle.cm_typing.specs.Expressions.{number_in}
+use Rattle.cm_typing.specs.Declarations.{next_named, is_range, declare, fields_told, no_params, key_of, map_types_told}
+use Rattle.cm_typing.specs.Declarations.{map_entry, invariant_told, inside, routine_told, decl_told, decls_told}
+use Rattle.cm_typing.specs.Declarations.{no_names, no_tables, tables_in, tables_of, faults_of}
 use Rattle.cm_types.proofs.Items.{Each, each_as, each_more, GoesOn, added, below, no_more, holds, all_more, length_map}
 use Rattle.cm_types.proofs.Measured.{IsFlat}
 use Rattle.cm_types.proofs.Recorded.{flat_parts, record_fits}

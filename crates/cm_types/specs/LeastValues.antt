@@ -10,11 +10,11 @@ use Rattle.cm_eval.specs.Invariant.{invariant_holds, MeetsInvariant}
 use Rattle.cm_syntax.specs.declared.tree.Decl.{Decl}
 use Rattle.cm_syntax.specs.declared.tree.Decl.TheVariants as decl
 use Rattle.cm_syntax.specs.declared.tree.Tree.{Tree}
-use Rattle.cm_types.specs.declared.fault.TypeFault.{TypeFault}
-use Rattle.cm_types.specs.declared.fault.TypeFault.TheVariants.{Rule, Memory}
-use Rattle.cm_types.specs.Told.{Told, Broken, fine, given, rule, first}
-use Rattle.cm_types.specs.Declarations.{tables_of, faults_of}
-use Rattle.cm_types.specs.Rules as rules
+use Rattle.cm_typing.specs.declared.fault.TypeFault.{TypeFault}
+use Rattle.cm_typing.specs.declared.fault.TypeFault.TheVariants.{Rule, Memory}
+use Rattle.cm_typing.specs.Told.{Told, Broken, fine, given, rule, first}
+use Rattle.cm_typing.specs.Declarations.{tables_of, faults_of}
+use Rattle.cm_typing.specs.Rules as rules
 
 abbrev pub declared_meets : Tables → Option StateDecl → Bool
 declared_meets t (Some d) = invariant_holds t.ints d.inv (least_of t d.value)

@@ -1,11 +1,4 @@
-pub mod Rules
-pub mod Told
-pub mod Counts
-pub mod Names
-pub mod Flats
-pub mod Types
-pub mod Expressions
-pub mod Statements
-pub mod Declarations
 pub mod Source
 pub mod LeastValues
+pub use Rattle.cm_typing.specs.Told
+pub use Rattle.cm_typing.specs.Declarations

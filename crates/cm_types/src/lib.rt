@@ -1,34 +1,10 @@
 //! The type checker: the tree of a text becomes a model, or the first type rule that fails is named.
 //!
-//! A part of a tree is told by one walk in the order of the text to be what it becomes, with its type; the first rule
-//! that fails ends the walk. The definitions in `specs` are the same walk, but go on to the end and list each failure.
-//! The tables that the walk leaves are a model, of which the rule on least values is then asked.
+//! The walk of `cm_typing` leaves tables. Where no rule fails in a tree that was read, they are well typed and so a
+//! model, of which the rule on least values is then asked.
 #![tactic(auto)]
 
-mod decl;
-mod expr;
-mod fault;
-mod flat;
 mod model;
-mod names;
-mod post;
-mod prim;
-mod routine;
-pub mod rules;
-mod scope;
-mod stmt;
-mod told;
-mod types;
-mod value;
-mod walk;
-mod weights;
 
-pub use fault::TypeFault;
-pub use flat::{Base, Flat, Kind};
+pub use cm_typing::TypeFault;
 pub use model::check;
-pub use names::{Entry, Names};
-pub use scope::{Draft, Scope};
-pub use told::{
-    Body, Done, FieldPath, FoundCell, FoundField, FoundMap, Params, Routine, Sets, Steps, Typed,
-};
-pub use walk::check_tables;

@@ -2,21 +2,19 @@
 
 ghost use Rattle.std.specs.Prelude.{◌≡◌, ◌++◌, [], ◌∷◌, IfOk, OnOk};
 ghost use Rattle.cm_model.specs.WellTyped.{IsWellTyped};
-ghost use Rattle.cm_types.specs.Told as Told;
-ghost use Rattle.cm_types.specs.Told.{Answers};
+ghost use Rattle.cm_typing.specs.Told as Told;
+ghost use Rattle.cm_typing.specs.Told.{Answers};
 ghost use Rattle.cm_types.specs.Source.{IsRead};
-ghost use Rattle.cm_types.specs.Declarations.{tables_in};
+ghost use Rattle.cm_typing.specs.Declarations.{tables_in};
 ghost use Rattle.cm_types.specs.LeastValues as LeastValues;
 ghost use Rattle.cm_types.specs.LeastValues.{meets_least, with_state, with_states, least_told, IsWalked, IsModelOf};
 ghost use Rattle.cm_types.specs.LeastValues.{LeastMeet};
-ghost use Rattle.cm_types.specs.Rules as Rules;
+ghost use Rattle.cm_typing.specs.Rules as Rules;
 
-use crate::fault::rule;
-use crate::walk::check_tables;
-use crate::{Draft, TypeFault, rules};
 use cm_eval::meets_invariant;
 use cm_model::{List, Model, NoMemory, Place};
 use cm_syntax::{Decl, Tree};
+use cm_typing::{Draft, TypeFault, check_tables, rule, rules};
 use cm_value::least;
 use std::alloc::Global;
 

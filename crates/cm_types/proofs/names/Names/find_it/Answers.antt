@@ -1,7 +1,0 @@
-use Rattle.std.proofs.Common.{◌≡◌, ◌∙◌, sym, map, string_bytes, ap}
-use Rattle.cm_types.specs.Names.{it_name}
-use Rattle.cm_types.proofs.NameLemmas.{found}
-use Rattle.cm_types.proofs.names.Names.find_it.Goals as goal
-
-pub returns : goal.returns
-returns c = rw (← c.self.view_is) (c.get.ensures.value ∙ found it_name c.self.inside.names.entries)

@@ -1,7 +1,0 @@
-use Rattle.std.proofs.Common.{◌≡◌, ◌∙◌, sym, map, string_bytes, ap}
-use Rattle.cm_types.specs.Names.{it_name}
-use Rattle.cm_types.proofs.NameLemmas.{there}
-use Rattle.cm_types.proofs.names.Names.has_it.Goals as goal
-
-pub returns : goal.returns
-returns c = rw (← c.self.view_is) (c.contains_key.ensures ∙ there it_name c.self.inside.names.entries)

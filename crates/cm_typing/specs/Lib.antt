@@ -1,0 +1,9 @@
+pub mod Rules
+pub mod Told
+pub mod Counts
+pub mod Names
+pub mod Flats
+pub mod Types
+pub mod Expressions
+pub mod Statements
+pub mod Declarations
