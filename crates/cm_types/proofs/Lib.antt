@@ -16,6 +16,7 @@ pub mod Passing
 pub mod PlainExprs
 pub mod PlainKinds
 pub mod Recorded
+pub mod Samples
 pub mod ShiftsTold
 pub mod SourcedDecls
 pub mod Standing

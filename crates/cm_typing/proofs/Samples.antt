@@ -38,32 +38,32 @@ use Rattle.cm_typing.proofs.Alternatives.{expr_Single, stmt_If, stmt_Return, stm
 use Rattle.cm_typing.proofs.WeightForms.{weight_Num, weight_Tag, weight_Local, weight_Compare, weight_Return, weight_If}
 use Rattle.cm_typing.proofs.WeightForms.{weight_Set, weight_Apply, weight_Cell}
 
-abbrev at : ℕ → Place
+abbrev pub at : ℕ → Place
 at c = record { line = 1; col = c }
 
-abbrev tree : Decl → List Decl → Tree
+abbrev pub tree : Decl → List Decl → Tree
 tree d ds = record { at = at 1; first = d; more = ds }
 
-abbrev part : ℕ → List ℕ → TypeTree → Part
+abbrev pub part : ℕ → List ℕ → TypeTree → Part
 part c n t = record { at = at c; name = n; value = t }
 
-abbrev named : ℕ → List ℕ → TypeTree
+abbrev pub named : ℕ → List ℕ → TypeTree
 named c n = type.Named (at c) n
 
-abbrev block : ℕ → List Stmt → Block
+abbrev pub block : ℕ → List Stmt → Block
 block c ss = record { at = at c; statements = ss }
 
 -- a prim as a side of a comparison, and as an expression
-abbrev side : ℕ → Primary → Sum
+abbrev pub side : ℕ → Primary → Sum
 side c p = Term (at c) (Bare (at c) (roll-Post (record { at = at c; prim = p; fields = []; sets = [] })))
 
-abbrev alone : ℕ → Primary → Expr
+abbrev pub alone : ℕ → Primary → Expr
 alone c p = Single (at c) (Side (at c) (side c p))
 
-abbrev both : ℕ → Primary → Relation → ℕ → Primary → Expr
+abbrev pub both : ℕ → Primary → Relation → ℕ → Primary → Expr
 both c p r d q = Single (at c) (Compared (at c) (side c p) r (side d q))
 
-abbrev name : ℕ → List ℕ → Primary
+abbrev pub name : ℕ → List ℕ → Primary
 name c n = prim.Name (at c) n
 
 -- sort S; sort S;
