@@ -37,7 +37,8 @@ use Rattle.cm_typing.specs.Flats.{same_flat, enum_flat, kind_of, value_of, is_va
 use Rattle.cm_typing.specs.Flats.{is_integer_flat, are_equal_kinds, wanted, option_flat, option_of, ty_of, ty_of_flat}
 use Rattle.cm_typing.specs.Expressions.{named, number_in, truth, it_told, value_named, map_named, map_told}
 use Rattle.cm_typing.specs.Expressions.{as_condition, operands_told, at_path, no_path, path_told, shift_told, op_of}
-use Rattle.cm_typing.specs.Expressions.{compared, prim_step, post_step, unary_step, sum_step, cmp_step, expr_step, expr_told}
+use Rattle.cm_typing.specs.Expressions.{compared, prim_step, post_step, unary_step, sum_step, cmp_step, expr_step}
+use Rattle.cm_typing.specs.Expressions.{expr_told}
 use Rattle.cm_types.proofs.Items.{no_more, holds, length_map}
 use Rattle.cm_types.proofs.ModelForms as forms
 use Rattle.cm_types.proofs.Deepening.{same_deep, integer_deep}
