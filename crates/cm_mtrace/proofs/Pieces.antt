@@ -1,6 +1,6 @@
 -- A stream, read piece by piece.
-use Rattle.std.proofs.Common.{arith, ◌≡◌, ℕ, ◌+◌, ◌<◌, ◌≤◌, Bool, true, false, List, [], ◌∷◌, ◌++◌, codes, length, take}
-use Rattle.std.proofs.Common.{ap, sym, subst, refl, ◌∙◌, inl, inr, append_assoc, length-append, MatchBool}
+use Rattle.std.proofs.Common.{arith, ◌≡◌, ℕ, ◌+◌, ◌<◌, ◌≤◌, List, [], ◌∷◌, ◌++◌, codes, length, take}
+use Rattle.std.proofs.Common.{ap, sym, subst, refl, ◌∙◌, inl, inr, append_assoc, length-append}
 use Rattle.std.specs.List.{AllByRecursion}
 use Rattle.std.proofs.lemmas.List.{append-nil, take_at}
 use Rattle.std.proofs.lemmas.List.Concat.{flat_map-append}
@@ -8,9 +8,11 @@ use Rattle.cm_mtrace.proofs.Bad.{gives_short, refused_open, refused_whole, whole
 use Rattle.cm_mtrace.proofs.LineTexts.{all_append, line_before, lines_are, lines_on, no_lines, text_lines}
 use Rattle.cm_mtrace.proofs.Stepping.{reads_none, reads_push}
 use Rattle.cm_mtrace.specs.Reader.{NamesFirst, NamesSeen}
-use Rattle.cm_mtrace.specs.inner.Reading.{AreLines, BadNext, IsLine, LineGives, LinesGive, Reaches, Reads, Spoils}
+use Rattle.cm_mtrace.specs.inner.Reading.{AreLines, BadNext, Ends, IsLine, IsTooLong, LineGives, LinesGive, Reaches}
+use Rattle.cm_mtrace.specs.inner.Reading.{Reads, Refuses, Spoils, Stops}
 use Rattle.cm_mtrace.specs.Trace.{BeginsTrace, open_line, text_of, whole_lines}
-use Rattle.cm_mtrace.specs.declared.fault.TraceFault.TheVariants.{BadLine}
+use Rattle.cm_mtrace.specs.declared.fault.TraceFault.{TraceFault}
+use Rattle.cm_mtrace.specs.declared.fault.TraceFault.TheVariants.{BadLine, Memory}
 use Rattle.cm_mtrace.specs.declared.item.Item.{Item}
 
 lines_give_append : (before : ℕ) (whole more : List (List ℕ)) (given rest : List Item) → LinesGive before whole given
@@ -46,68 +48,60 @@ reads_on before text more whole whole' tail old mid new lines lines' reads on = 
 }
 
 pub reaches_on : (before : ℕ) (text more : List ℕ) (whole : List (List ℕ)) (old mid new : List Item)
-    (lines lines' : ℕ) (fits : Bool) (left : List ℕ) → Reads before text whole [] old mid lines
-    → Reaches lines more mid new lines' fits left → Reaches before (text ++ more) old new lines' fits left
-reaches_on before text more whole old mid new lines lines' true left reads r =
-    (whole ++ r.0, reads_on before text more whole r.0 left old mid new lines lines' reads r.1, r.2, r.3)
-reaches_on before text more whole old mid new lines lines' false left reads r = (
-  whole ++ r.0,
-  r.1,
-  reads_on before text more whole r.0 r.1 old mid new lines lines' reads r.2,
-  r.3,
-)
+    (lines lines' : ℕ) (left : List ℕ) → Reads before text whole [] old mid lines
+    → Reaches lines more mid new lines' left → Reaches before (text ++ more) old new lines' left
+reaches_on before text more whole old mid new lines lines' left reads r =
+    let e = r.0 in
+    ((whole ++ e.0, reads_on before text more whole e.0 left old mid new lines lines' reads e.1, e.2), r.1)
 
--- the open line behind whole lines, kept or too long
-pub reaches_kept : (before : ℕ) (text : List ℕ) (whole : List (List ℕ)) (rest : List ℕ) (old new : List Item)
-    (lines : ℕ) (fits : Bool) (left : List ℕ) → Reads before text whole rest old new lines → IsLine rest
-    → MatchBool fits ((left ≡ rest) × (length rest ≤ 80)) ((left ≡ []) × (80 < length rest))
-    → Reaches before text old new lines fits left
-reaches_kept before text whole rest old new lines true left reads is kept = (
-  whole,
-  subst (λ l. Reads before text whole l old new lines) (sym kept.0) reads,
-  subst IsLine (sym kept.0) is,
-  subst (λ l. length l ≤ 80) (sym kept.0) kept.1,
+pub stops_on : (before : ℕ) (text more : List ℕ) (whole : List (List ℕ)) (old mid new : List Item)
+    (lines : ℕ) (f : TraceFault) → Reads before text whole [] old mid lines
+    → Stops lines more mid new f → Stops before (text ++ more) old new f
+stops_on before text more whole old mid new lines (BadLine line) reads s = (
+  s.0,
+  s.1,
+  whole ++ s.2,
+  s.3,
+  reads_on before text more whole s.2 s.3 old mid new lines s.0 reads s.4,
+  s.5,
 )
-reaches_kept before text whole rest old new lines false left reads is long = (whole, rest, reads, inr (is, long.1))
+stops_on before text more whole old mid new lines Memory reads s = tt
 
--- the same, where all of it is one open line
-pub reaches_held : (before : ℕ) (old more : List ℕ) (to : List Item) (fits : Bool) (left : List ℕ) → IsLine old
-    → IsLine more → MatchBool fits ((left ≡ old ++ more) × (length (old ++ more) ≤ 80)) ((left ≡ old)
-    × (80 < length (old ++ more))) → Reaches before (old ++ more) to to before fits left
-reaches_held before old more to true left is is' kept = (
-  [],
-  subst (λ l. Reads before (old ++ more) [] l to to before) (sym kept.0) (reads_none before (old ++ more) to),
-  subst IsLine (sym kept.0) (all_append _ old more is is'),
-  subst (λ l. length l ≤ 80) (sym kept.0) kept.1,
-)
-reaches_held before old more to false left is is' long = (
-  [],
-  old ++ more,
-  reads_none before (old ++ more) to,
-  inr (all_append _ old more is is', long.1),
-)
+-- the open line behind whole lines is kept
+pub reaches_kept : (before : ℕ) (text rest : List ℕ) (old new : List Item) (lines : ℕ) (left : List ℕ)
+    → Ends before text old new lines rest → (left ≡ rest) × (length rest ≤ 80) → Reaches before text old new lines left
+reaches_kept before text rest old new lines left ends kept =
+    (subst (Ends before text old new lines) (sym kept.0) ends, subst (λ l. length l ≤ 80) (sym kept.0) kept.1)
+
+-- or it is too long
+pub stops_long : (before : ℕ) (text rest : List ℕ) (old new : List Item) (lines : ℕ) (f : TraceFault)
+    → Ends before text old new lines rest → IsTooLong lines rest f → Stops before text old new f
+stops_long before text rest old new lines (BadLine line) ends long =
+    (lines, long.0, ends.0, rest, ends.1, inr (ends.2, long.1))
+stops_long before text rest old new lines Memory ends long = tt
+
+-- all of it is one open line
+pub ends_none : (before : ℕ) (text : List ℕ) (to : List Item) → IsLine text → Ends before text to to before text
+ends_none before text to is = ([], reads_none before text to, is)
+
+-- the line behind those that were read is bad
+pub stops_refused : (before : ℕ) (text : List ℕ) (whole : List (List ℕ)) (tail : List ℕ) (old mid new : List Item)
+    (lines : ℕ) (f : TraceFault) → Reads before text whole tail old mid lines → Refuses lines tail mid new f
+    → Stops before text old new f
+stops_refused before text whole tail old mid new lines (BadLine line) reads r =
+    (lines, r.0, whole, tail, subst (λ to. Reads before text whole tail old to lines) (sym r.2) reads, inl r.1)
+stops_refused before text whole tail old mid new lines Memory reads r = tt
 
 -- a bad line stays so
-pub bad_on : (lines : ℕ) (tail more : List ℕ) → BadNext lines tail → BadNext lines (tail ++ more)
-bad_on lines tail more bad = (
-  bad.0,
-  bad.1 ++ more,
-  bad.2,
-  ap (λ t. t ++ more) bad.3
-      ∙ append_assoc (bad.0 ++ codes "\n") bad.1 more,
-  bad.4,
-)
-
-pub reads_more : (before : ℕ) (text more : List ℕ) (whole : List (List ℕ)) (tail : List ℕ) (old new : List Item)
-    (lines : ℕ) → Reads before text whole tail old new lines
-    → Reads before (text ++ more) whole (tail ++ more) old new lines
-reads_more before text more whole tail old new lines reads = record {
-  spelled = ap (λ t. t ++ more) reads.spelled
-      ∙ append_assoc (text_of whole) tail more;
-  each = reads.each;
-  counted = reads.counted;
-  given = reads.given;
-}
+pub refuses_on : (before : ℕ) (text more : List ℕ) (old new : List Item) (f : TraceFault)
+    → Refuses before text old new f → Refuses before (text ++ more) old new f
+refuses_on before text more old new (BadLine line) r =
+    let b = r.1 in (
+      r.0,
+      (b.0, b.1 ++ more, b.2, ap (λ t. t ++ more) b.3 ∙ append_assoc (b.0 ++ codes "\n") b.1 more, b.4),
+      r.2,
+    )
+refuses_on before text more old new Memory r = tt
 
 -- a line of more than 80 bytes is bad
 pub long_bad : (lines : ℕ) (line after : List ℕ) → IsLine line → 80 < length line

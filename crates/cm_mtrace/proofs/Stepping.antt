@@ -1,19 +1,20 @@
 -- What a step over a text gives.
 use Rattle.std.proofs.Common.{arith, ◌≡◌, ◌≢◌, ℕ, ◌+◌, ◌<◌, ◌≤◌, List, [], ◌∷◌, ◌++◌, codes, length, ap, sym, subst}
-use Rattle.std.proofs.Common.{refl, ◌∙◌, inl, inr, append_assoc, length-append, Result, Ok, Err, IfOk}
+use Rattle.std.proofs.Common.{refl, ◌∙◌, inl, inr, append_assoc, length-append, Option, None, Some}
+use Rattle.std.specs.Borrow.{Bor}
 use Rattle.std.proofs.lemmas.Bool.{cases_lt}
 use Rattle.std.proofs.lemmas.List.{append-nil}
 use Rattle.std.proofs.lemmas.List.Concat.{flat_map-append}
 use Rattle.cm_mtrace.proofs.LineTexts.{all_append}
 use Rattle.cm_mtrace.proofs.Steps.{lines_give_push}
 use Rattle.cm_mtrace.proofs.Items.{item_line}
-use Rattle.cm_mtrace.specs.inner.Reading.{IsLine, LineGives, Reads, SectionSteps, Steps}
+use Rattle.cm_mtrace.specs.inner.Reading.{IsLine, LineGives, Reads, Refuses, SectionRefuses, SectionSteps, Steps}
 use Rattle.cm_mtrace.specs.Trace.{IsEntry, IsItem, IsSectionName, first_line, line_of, text_of}
 use Rattle.cm_mtrace.specs.declared.item.Entry.{Entry}
 use Rattle.cm_mtrace.specs.declared.item.Item.{Item}
 use Rattle.cm_mtrace.specs.declared.item.Item.TheVariants as items
-use Rattle.cm_mtrace.specs.declared.step.Step.{Step}
-use Rattle.cm_mtrace.specs.declared.step.Step.TheVariants.{Bad, Open, Read}
+use Rattle.cm_mtrace.specs.declared.fault.TraceFault.{TraceFault}
+use Rattle.cm_mtrace.specs.declared.fault.TraceFault.TheVariants.{BadLine, Memory}
 
 -- the first line
 pub first_gives : LineGives 0 first_line []
@@ -65,9 +66,9 @@ nothing_given before text line after some no_entry spelled no_section given l =
     ]
 
 -- a step where only a section may begin, or no entry stands
-pub section_steps : (before : ℕ) (text : List ℕ) (old new : List Item) (step : Step) → 1 ≤ before → NoEntry before text
+pub section_steps : (before : ℕ) (text : List ℕ) (old new : List Item) (step : Option (Bor (List ℕ))) → 1 ≤ before
     → SectionSteps text old new step → Steps before text old new step
-section_steps before text old new (Read after) some no_entry s = (
+section_steps before text old new (Some after) some s = (
   line_of (items.Test s.0),
   items.Test s.0 ∷ [],
   item_line (items.Test s.0) s.1,
@@ -75,15 +76,14 @@ section_steps before text old new (Read after) some no_entry s = (
   section_gives before s.0 some s.1,
   s.3,
 )
-section_steps before text old new Open some no_entry s = s
-section_steps before text old new Bad some no_entry s = (
-  s.0,
-  s.1,
-  s.2,
-  s.3,
-  nothing_given before text s.0 s.1 some no_entry s.3 s.4,
-  s.5,
-)
+section_steps before text old new None some s = s
+
+pub section_refuses : (before : ℕ) (text : List ℕ) (old new : List Item) (f : TraceFault) → 1 ≤ before
+    → NoEntry before text → SectionRefuses before text old new f → Refuses before text old new f
+section_refuses before text old new (BadLine line) some no_entry s =
+    let n = s.1 in
+    (s.0, (n.0, n.1, n.2, n.3, nothing_given before text n.0 n.1 some no_entry n.3 n.4), s.2)
+section_refuses before text old new Memory some no_entry s = tt
 
 -- lines so far, and one more
 pub reads_push : (before : ℕ) (text : List ℕ) (whole : List (List ℕ)) (tail line after : List ℕ)
@@ -121,7 +121,3 @@ shorter text line after spelled = omega (
   length-append (line ++ codes "\n") after,
   length-append line (codes "\n"),
 )
-
-pub ok_map : {T E : Type 0} (r : Result T E) (P Q : T → Type 0) → ((x : T) → P x → Q x) → IfOk r P → IfOk r Q
-ok_map (Ok x) P Q f p = f x p
-ok_map (Err e) P Q f p = p

@@ -7,8 +7,10 @@ use Rattle.std.proofs.lemmas.List.Elements.{All-append, All-from_recursion}
 use Rattle.cm_mtrace.proofs.LineTexts.{all_append, lines_are, lines_on, text_lines}
 use Rattle.cm_mtrace.proofs.Pieces.{IsSpoiled, spoiled}
 use Rattle.cm_mtrace.proofs.Steps.{begins_gives, gives_begins, gives_on}
-use Rattle.cm_mtrace.specs.Reader.{Progress, StandsFor}
-use Rattle.cm_mtrace.specs.inner.Reading.{AreLines, LineGives, LinesGive, Reaches, Spoils}
+use Rattle.cm_mtrace.specs.Reader.{GaveEarlier, NamesFirst, NamesSeen, Progress, StandsFor}
+use Rattle.cm_mtrace.specs.inner.Reading.{AreLines, LineGives, LinesGive, Reaches, Spoils, Stops}
+use Rattle.cm_mtrace.specs.declared.fault.TraceFault.{TraceFault}
+use Rattle.cm_mtrace.specs.declared.fault.TraceFault.TheVariants.{BadLine, Memory}
 use Rattle.cm_mtrace.specs.Trace.{BeginsTrace, GiveItems, IsItem, open_line, text_of, whole_lines}
 use Rattle.cm_mtrace.specs.declared.item.Item.{Item}
 use Rattle.cm_mtrace.specs.declared.item.Item.TheVariants as items
@@ -31,59 +33,80 @@ begins_behind p text whole given s gives =
     gives_begins (whole_lines text ++ whole) (its.0 ++ given) (gives_behind p text whole given its.0 s gives its.1)
 
 module _ (p : Progress) (piece : List ℕ) (old new : List Item) (lines : ℕ) (left : List ℕ)
-    (r : Reaches p.lines (p.left ++ piece) old new lines true left) where
-  whole_behind : (text : List ℕ) → StandsFor p text → (whole_lines (text ++ piece) ≡ whole_lines text ++ r.0)
+    (r : Reaches p.lines (p.left ++ piece) old new lines left) where
+  whole_behind : (text : List ℕ) → StandsFor p text → (whole_lines (text ++ piece) ≡ whole_lines text ++ r.0.0)
       × (open_line (text ++ piece) ≡ left)
-  whole_behind text s = lines_are _ _ _ (lines_on text piece (whole_lines text) r.0 p.left left (stream_lines p text s)
-      (record { spelled = r.1.spelled; each = r.1.each; last = r.2 }))
+  whole_behind text s = lines_are _ _ _ (lines_on text piece (whole_lines text) r.0.0 p.left left
+      (stream_lines p text s) (record { spelled = r.0.1.spelled; each = r.0.1.each; last = r.0.2 }))
 
   pub stands_on : (text : List ℕ) → StandsFor p text → StandsFor (record { lines = lines; left = left; fault = None })
       (text ++ piece)
   stands_on text s =
       let w = whole_behind text s in
       record {
-        lines = omega (arith, r.1.counted, s.lines, ap length w.0, length-append (whole_lines text) r.0);
+        lines = omega (arith, r.0.1.counted, s.lines, ap length w.0, length-append (whole_lines text) r.0.0);
         left = sym w.1;
         fault = refl;
-        good = subst BeginsTrace (sym w.0) (begins_behind p text r.0 r.1.given.0 s r.1.given.2);
-        short = r.3;
+        good = subst BeginsTrace (sym w.0) (begins_behind p text r.0.0 r.0.1.given.0 s r.0.1.given.2);
+        short = r.1;
       }
 
   pub given_on : (text : List ℕ) (items : List Item) → StandsFor p text → GiveItems (whole_lines text) items
-      → GiveItems (whole_lines (text ++ piece)) (items ++ r.1.given.0)
-  given_on text items s give = subst (λ w. GiveItems w (items ++ r.1.given.0)) (sym (whole_behind text s).0)
-      (gives_behind p text r.0 r.1.given.0 items s r.1.given.2 give)
+      → GiveItems (whole_lines (text ++ piece)) (items ++ r.0.1.given.0)
+  given_on text items s give = subst (λ w. GiveItems w (items ++ r.0.1.given.0)) (sym (whole_behind text s).0)
+      (gives_behind p text r.0.0 r.0.1.given.0 items s r.0.1.given.2 give)
 
-module _ (p : Progress) (piece : List ℕ) (old new : List Item) (lines : ℕ) (left : List ℕ)
-    (r : Reaches p.lines (p.left ++ piece) old new lines false left) where
-  pub spoiled_on : (text : List ℕ) → StandsFor p text → (IsSpoiled (text ++ piece) (whole_lines text ++ r.0))
-      × (lines ≡ length (whole_lines text ++ r.0))
+module _ (p : Progress) (piece : List ℕ) (old new : List Item) (line : ℕ)
+    (r : Stops p.lines (p.left ++ piece) old new (BadLine line)) where
+  pub spoiled_on : (text : List ℕ) → StandsFor p text → (IsSpoiled (text ++ piece) (whole_lines text ++ r.2))
+      × (line ≡ length (whole_lines text ++ r.2) + 1)
   spoiled_on text s =
       let are = stream_lines p text s in
-      let count : lines ≡ length (whole_lines text ++ r.0) = omega (
+      let count : r.0 ≡ length (whole_lines text ++ r.2) = omega (
         arith,
-        r.2.counted,
+        r.4.counted,
         s.lines,
-        length-append (whole_lines text) r.0,
+        length-append (whole_lines text) r.2,
       ) in
-      let spelled : text ++ piece ≡ text_of (whole_lines text ++ r.0) ++ r.1 =
+      let spelled : text ++ piece ≡ text_of (whole_lines text ++ r.2) ++ r.3 =
       ap (λ t. t ++ piece) are.spelled ∙ append_assoc (text_of (whole_lines text)) p.left piece
-      ∙ ap (λ t. text_of (whole_lines text) ++ t) r.2.spelled
-      ∙ sym (append_assoc (text_of (whole_lines text)) (text_of r.0) r.1)
-      ∙ ap (λ t. t ++ r.1) (sym (flat_map-append _ (whole_lines text) r.0)) in (
-        spoiled (text ++ piece) r.1 (whole_lines text ++ r.0) (all_append _ (whole_lines text) r.0 are.each r.2.each)
-            (begins_behind p text r.0 r.2.given.0 s r.2.given.2) spelled (subst (λ n. Spoils n r.1) count r.3),
-        count,
+      ∙ ap (λ t. text_of (whole_lines text) ++ t) r.4.spelled
+      ∙ sym (append_assoc (text_of (whole_lines text)) (text_of r.2) r.3)
+      ∙ ap (λ t. t ++ r.3) (sym (flat_map-append _ (whole_lines text) r.2)) in (
+        spoiled (text ++ piece) r.3 (whole_lines text ++ r.2) (all_append _ (whole_lines text) r.2 are.each r.4.each)
+            (begins_behind p text r.2 r.4.given.0 s r.4.given.2) spelled (subst (λ n. Spoils n r.3) count r.5),
+        r.1 ∙ ap (λ n. n + 1) count,
       )
 
   pub earlier_on : (text : List ℕ) (items : List Item) → StandsFor p text → GiveItems (whole_lines text) items
-      → GiveItems (take (lines + 1 - 1) (whole_lines (text ++ piece))) (items ++ r.2.given.0)
+      → GiveItems (take (line - 1) (whole_lines (text ++ piece))) (items ++ r.4.given.0)
   earlier_on text items s give =
       let spoil = spoiled_on text s in
-      let front : take (lines + 1 - 1) (whole_lines (text ++ piece)) ≡ whole_lines text ++ r.0 =
+      let front : take (line - 1) (whole_lines (text ++ piece)) ≡ whole_lines text ++ r.2 =
       ap (λ n. take n (whole_lines (text ++ piece))) (omega (arith, spoil.1)) ∙ spoil.0.front in
-      subst (λ w. GiveItems w (items ++ r.2.given.0)) (sym front) (gives_behind p text r.0 r.2.given.0
-      items s r.2.given.2 give)
+      subst (λ w. GiveItems w (items ++ r.4.given.0)) (sym front) (gives_behind p text r.2 r.4.given.0
+      items s r.4.given.2 give)
+
+-- what a fault behind a piece tells of the stream
+pub first_told : (p : Progress) (piece : List ℕ) (old new : List Item) (f : TraceFault)
+    → Stops p.lines (p.left ++ piece) old new f → (text : List ℕ) → StandsFor p text → NamesFirst (text ++ piece) f
+first_told p piece old new (BadLine line) r text s =
+    let spoil = spoiled_on p piece old new line r text s in
+    subst (λ n. NamesFirst (text ++ piece) (BadLine n)) (sym spoil.1) spoil.0.first
+first_told p piece old new Memory r text s = tt
+
+pub seen_told : (p : Progress) (piece : List ℕ) (old new : List Item) (f : TraceFault)
+    → Stops p.lines (p.left ++ piece) old new f → (text : List ℕ) → StandsFor p text → NamesSeen (text ++ piece) f
+seen_told p piece old new (BadLine line) r text s =
+    let spoil = spoiled_on p piece old new line r text s in
+    subst (λ n. NamesSeen (text ++ piece) (BadLine n)) (sym spoil.1) spoil.0.seen
+seen_told p piece old new Memory r text s = tt
+
+pub earlier_told : (p : Progress) (piece : List ℕ) (old new : List Item) (f : TraceFault)
+    → Stops p.lines (p.left ++ piece) old new f → GaveEarlier p piece old new f
+earlier_told p piece old new (BadLine line) r =
+    λ none. (r.4.given.0, r.4.given.1, λ text items s give. earlier_on p piece old new line r text items s give)
+earlier_told p piece old new Memory r = tt
 
 line_valid : (before : ℕ) (line : List ℕ) (given : List Item) → LineGives before line given → All IsItem given
 line_valid before line given l =

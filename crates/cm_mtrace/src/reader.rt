@@ -49,8 +49,7 @@ impl Reader {
     }
 
     /// Reads the next piece of the stream, and adds the items of the lines that are whole now. After a fault each call
-    /// answers
-    /// the same fault, and adds nothing.
+    /// answers the same fault, and adds nothing.
     pub fn feed(&mut self, piece: &[u8], to: &mut Vec<Item>) -> Result<(), TraceFault>
         // The stream has fewer than 2^64 - 1 bytes.
         requires room { self.old.lines + length self.old.left + length piece.now < 2 ^ 64 - 1 }
@@ -77,16 +76,11 @@ impl Reader {
             return Err(fault);
         }
         match read_piece(self.alloc, self.lines, &mut self.left, piece, to) {
-            Ok(reached) => {
-                self.lines = reached.lines;
-                if reached.fits {
-                    return Ok(());
-                }
-                self.fail(TraceFault::BadLine {
-                    line: reached.lines + 1,
-                })
+            Ok(lines) => {
+                self.lines = lines;
+                Ok(())
             }
-            Err(_) => self.fail(TraceFault::Memory),
+            Err(fault) => self.fail(fault),
         }
     }
 
@@ -100,8 +94,7 @@ impl Reader {
     }
 
     /// Ends the stream: what it stands for is a trace of the items that were given, or has a bad line. A fault that
-    /// came before
-    /// comes again.
+    /// came before comes again.
     pub fn finish(&mut self) -> Result<(), TraceFault>
         ensures trace { OnOk result ((text : List ℕ) (items : List Item) → StandsFor self.old text
             → GiveItems (whole_lines text) items

@@ -1,87 +1,74 @@
 //! The lines of a text, one after another.
 
-ghost use Rattle.std.specs.Prelude.{◌≡◌, ◌-◌, ◌+◌, ◌^◌, ◌<◌, ◌≤◌, ℕ, List, length, IfOk, MatchOption};
-ghost use Rattle.cm_mtrace.specs.inner.Reading.{Ends, Reads, SectionSteps, Steps};
+ghost use Rattle.std.specs.Prelude.{◌≡◌, ◌-◌, ◌+◌, ◌^◌, ◌<◌, ◌≤◌, ℕ, List, length, IfErr, IfOk};
+ghost use Rattle.cm_mtrace.specs.inner.Reading.{Ends, Reads, Refuses, SectionRefuses, SectionSteps, Steps, Stops};
 ghost use Rattle.cm_mtrace.specs.declared.item.Item.{Item};
 
-use crate::Item;
 use crate::line::{cut, entry_at, section_name};
+use crate::{Item, TraceFault};
 use cm_model::{Name, NoMemory};
 use std::alloc::Global;
 
-/// What a step over a text finds at its front: a line that fits there, with what stands behind it; no whole line; or a
-/// line
-/// with which no trace goes on.
-#[derive(Clone, Copy)]
-pub enum Step<'a> {
-    Read(&'a [u8]),
-    Open,
-    Bad,
-}
+/// What stands behind the line at the front of a text, where a whole one stands there and fits.
+type Step<'a> = Result<Option<&'a [u8]>, TraceFault>;
 
 // Steps over the first line of a trace.
 fn first_step(text: &[u8]) -> Step<'_>
-    ensures { (items : List Item) → Steps 0 text.now items items result }
+    ensures steps { IfOk result (λ after. (items : List Item) → Steps 0 text.now items items after) }
+    ensures refuses { IfErr result (λ f. (items : List Item) → Refuses 0 text.now items items f) }
 {
     let Some((line, after)) = cut(text) else {
-        return Step::Open;
+        return Ok(None);
     };
     if line == b"trace 1".as_slice() {
-        Step::Read(after)
+        Ok(Some(after))
     } else {
-        Step::Bad
+        Err(TraceFault::BadLine { line: 1 })
     }
 }
 
 // Steps over the first line of a section.
-fn section_step<'a>(alloc: Global, text: &'a [u8], to: &mut Vec<Item>) -> Result<Step<'a>, NoMemory>
-    ensures { IfOk result (SectionSteps text.now to.old.items to.new.items) }
+fn section_step<'a>(alloc: Global, before: u64, text: &'a [u8], to: &mut Vec<Item>) -> Step<'a>
+    requires { before < 2 ^ 64 - 1 }
+    ensures steps { IfOk result (SectionSteps text.now to.old.items to.new.items) }
+    ensures refuses { IfErr result (SectionRefuses before text.now to.old.items to.new.items) }
 {
     let Some((line, after)) = cut(text) else {
-        return Ok(Step::Open);
+        return Ok(None);
     };
     let Some(name) = section_name(line) else {
-        return Ok(Step::Bad);
+        return Err(TraceFault::BadLine { line: before + 1 });
     };
     to.push(Item::Test(Name::from_str(alloc, name)?))?;
-    Ok(Step::Read(after))
+    Ok(Some(after))
 }
 
 // Steps over an entry, or the first line of a section.
-fn item_step<'a>(alloc: Global, text: &'a [u8], to: &mut Vec<Item>) -> Result<Step<'a>, NoMemory>
-    ensures { IfOk result (λ step. (before : ℕ) → 2 ≤ before → Steps before text.now to.old.items to.new.items step) }
+fn item_step<'a>(alloc: Global, before: u64, text: &'a [u8], to: &mut Vec<Item>) -> Step<'a>
+    requires two { 2 ≤ before }
+    requires room { before < 2 ^ 64 - 1 }
+    ensures steps { IfOk result (Steps before text.now to.old.items to.new.items) }
+    ensures refuses { IfErr result (Refuses before text.now to.old.items to.new.items) }
 {
     let Some((entry, after)) = entry_at(text) else {
-        return section_step(alloc, text, to);
+        return section_step(alloc, before, text, to);
     };
     to.push(Item::Entry(entry))?;
-    Ok(Step::Read(after))
+    Ok(Some(after))
 }
 
 /// Steps over a line behind so many others, and adds its item.
 #[inline(always)]
-pub fn next_step<'a>(
-    alloc: Global,
-    before: u64,
-    text: &'a [u8],
-    to: &mut Vec<Item>,
-) -> Result<Step<'a>, NoMemory>
-    ensures { IfOk result (Steps before text.now to.old.items to.new.items) }
+pub fn next_step<'a>(alloc: Global, before: u64, text: &'a [u8], to: &mut Vec<Item>) -> Step<'a>
+    requires { before < 2 ^ 64 - 1 }
+    ensures steps { IfOk result (Steps before text.now to.old.items to.new.items) }
+    ensures refuses { IfErr result (Refuses before text.now to.old.items to.new.items) }
 {
     match before {
-        0 => Ok(first_step(text)),
-        1 => section_step(alloc, text, to),
-        _ => item_step(alloc, text, to),
+        0 => first_step(text),
+        1 => section_step(alloc, before, text, to),
+        _ => item_step(alloc, before, text, to),
     }
-}
-
-/// Where a text was read to: so many lines now begin a trace, and the last of them is open; or none is, and the next
-/// line is
-/// bad.
-#[derive(Clone, Copy)]
-pub struct Ending<'a> {
-    pub lines: u64,
-    pub left: Option<&'a [u8]>,
 }
 
 // Reads entries as long as they stand at the front. Most lines are entries, so these have a loop of their own.
@@ -113,36 +100,29 @@ fn read_entries<'a>(
     }
 }
 
-/// Reads the whole lines of a text behind so many others, and adds their items.
+/// Reads the whole lines of a text behind so many others, and adds their items: how many lines now begin a trace, and
+/// the open line behind them.
 pub fn read_lines<'a>(
     alloc: Global,
     before: u64,
     text: &'a [u8],
     to: &mut Vec<Item>,
-) -> Result<Ending<'a>, NoMemory>
+) -> Result<(u64, &'a [u8]), TraceFault>
     requires { before + length text.now < 2 ^ 64 - 1 }
-    ensures ends { IfOk result (λ end. Ends before text.now to.old.items to.new.items end.lines end.left) }
-    ensures counted { IfOk result (λ end. MatchOption end.left (end.lines ≤ before + length text.now)
-        (λ left. end.lines + length left.now ≤ before + length text.now)) }
+    ensures ends { IfOk result (λ end. Ends before text.now to.old.items to.new.items end.0 end.1.now) }
+    ensures stops { IfErr result (Stops before text.now to.old.items to.new.items) }
+    ensures counted { IfOk result (λ end. end.0 + length end.1.now ≤ before + length text.now) }
 {
     let mut rest = text;
     let mut lines = before;
     'lines: loop {
         let (known, behind) = read_entries(lines, rest, to)?;
-        lines = known;
-        rest = behind;
-        match next_step(alloc, lines, rest, to)? {
-            Step::Read(after) => {
-                lines += 1;
+        match next_step(alloc, known, behind, to)? {
+            Some(after) => {
+                lines = known + 1;
                 rest = after;
             }
-            Step::Open => {
-                return Ok(Ending {
-                    lines,
-                    left: Some(rest),
-                });
-            }
-            Step::Bad => return Ok(Ending { lines, left: None }),
+            None => return Ok((known, behind)),
         }
     }
 }
