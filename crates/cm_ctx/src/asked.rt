@@ -2,6 +2,7 @@
 
 ghost use Rattle.std.specs.Prelude.{◌≡◌, ◌↔◌, ◌<◌, ◌≤◌, ◌-◌, ◌+◌, ◌*◌, ◌==◌, ◌++◌, ◌∷◌, [], ℕ, Some, IsTrue, IfOk};
 ghost use Rattle.std.specs.Prelude.{if◌then◌else◌, length, replicate, slice_get, slice_index_or};
+ghost use Rattle.std.specs.Option.{option_copied};
 ghost use Rattle.cm_ctx.specs.declared.piece.Piece.{Piece};
 ghost use Rattle.cm_ctx.specs.Contexts.{payloads_in, payloads_of};
 ghost use Rattle.cm_ctx.specs.Naming.{syms_of};
@@ -85,6 +86,16 @@ impl Asked {
         let number = number_at(options, o as usize);
         let piece = piece_at(pieces, number);
         payload_in(piece, o)
+    }
+
+    /// The same, if there is an option with this number.
+    pub fn payload_if(&self, o: u64) -> Option<&Term>
+        ensures { option_copied result ≡ slice_get (payloads_of self.now) o }
+    {
+        if o < self.options.len() as u64 {
+            return Some(self.payload(o));
+        }
+        None
     }
 
     /// The symbol of a variable, by its number among those of its kind.

@@ -2,6 +2,7 @@
 
 ghost use Rattle.std.specs.Prelude.{◌≡◌, ◌≢◌, ◌<◌, ◌+◌, ◌-◌, ◌++◌, ◌∷◌, ◌↔◌, [], ℕ, Some, true, None, IsTrue, IfOk};
 ghost use Rattle.std.specs.Prelude.{OnOk, OnErr, length, map, slice_get};
+ghost use Rattle.std.specs.Option.{option_copied};
 ghost use Rattle.cm_model.specs.Types.{IsType};
 ghost use Rattle.cm_value.specs.Membership.{IsValueOf};
 ghost use Rattle.cm_value.specs.declared.value.Value.{Value};
@@ -223,6 +224,13 @@ impl Ctx {
         ensures term { (t : Term) → IsPayload self.now.pieces o.0 t → result.now ≡ t }
     {
         self.asked.get().payload(o.0)
+    }
+
+    /// The same, if there is an option with this number.
+    pub fn payload_if(&self, o: OptVar) -> Option<&Term>
+        ensures term { option_copied result ≡ slice_get (payloads_of self.now.pieces) o.0 }
+    {
+        self.asked.get().payload_if(o.0)
     }
 
     /// Whether the symbol of this root was asked for.

@@ -1,6 +1,7 @@
 //! What a run needs of the facts on the variables of its terms.
 
-ghost use Rattle.std.specs.Prelude.{◌≡◌, ◌++◌, ◌∷◌, ◌↔◌, [], List, IfOk, OnOk};
+ghost use Rattle.std.specs.Prelude.{◌≡◌, ◌++◌, ◌∷◌, ◌↔◌, [], List, IfOk, OnOk, slice_get};
+ghost use Rattle.std.specs.Option.{option_copied};
 ghost use Rattle.cm_term.specs.Valuation.{Valuation};
 ghost use Rattle.cm_term.specs.declared.term.Term.{Term};
 ghost use Rattle.cm_ctx.specs.declared.piece.Counts.{Counts};
@@ -8,7 +9,7 @@ ghost use Rattle.cm_ctx.specs.declared.piece.Piece.{Piece};
 ghost use Rattle.cm_ctx.specs.Making.{counted, piece_of};
 ghost use Rattle.cm_ctx.specs.Giving.{Gives};
 ghost use Rattle.cm_ctx.specs.Asking.{IsNew, IsPayload};
-ghost use Rattle.cm_ctx.specs.Contexts.{Satisfies, counts_of};
+ghost use Rattle.cm_ctx.specs.Contexts.{Satisfies, counts_of, payloads_of};
 
 use crate::context::Ctx;
 use cm_model::{Model, NoMemory, Ty};
@@ -46,6 +47,10 @@ pub trait Facts {
     fn payload_of(&self, o: OptVar) -> &Term
         requires { (t : Term) × IsPayload (pieces self.now) o.0 t }
         ensures term { (t : Term) → IsPayload (pieces self.now) o.0 t → result.now ≡ t };
+
+    /// The same, if there is an option with this number.
+    fn payload_if(&self, o: OptVar) -> Option<&Term>
+        ensures term { option_copied result ≡ slice_get (payloads_of (pieces self.now)) o.0 };
 }
 
 impl Facts for Ctx {
@@ -62,5 +67,10 @@ impl Facts for Ctx {
 
     fn payload_of(&self, o: OptVar) -> &Term {
         self.payload_by(o)
+    }
+
+    fn payload_if(&self, o: OptVar) -> Option<&Term> {
+        let payload = Ctx::payload_if(self, o);
+        payload
     }
 }
