@@ -1,0 +1,6 @@
+pub mod Asking
+pub mod Terms
+pub mod Comparing
+pub mod Deciding
+pub mod Settling
+pub mod Pairing

@@ -1,0 +1,14 @@
+//! Calls run on terms: what a run and the last comparison ask, question by question.
+#![tactic(auto)]
+
+mod compare;
+mod comparison;
+mod copies;
+mod decider;
+mod operand;
+
+pub use compare::{Compare, Next, Progress};
+pub use comparison::{Comparison, Met, Sides};
+
+#[cfg(test)]
+mod tests;
