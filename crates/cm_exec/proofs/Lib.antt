@@ -3,3 +3,8 @@ pub mod Records
 pub mod Payloads
 pub mod Pairs
 pub mod Playing
+pub mod Touching
+pub mod Checking
+pub mod Going
+pub mod Beginning
+pub mod Telling

@@ -99,6 +99,18 @@ module _ (codes : List (List Instr)) where
   turned turn.On d ps = doing d ps
   turned (turn.To r) d ps = reached r d ps
 
+  -- where something is asked, that is at the head
+  abbrev pub AsksAt : Reached → Decider → Type 0
+  AsksAt (reach.Asks q) d = (ps : List Term) → doing d ps ≡ Decides q (after (doing d ps))
+  AsksAt (reach.Reads s c) d = Unit {0}
+  AsksAt (reach.Writes s c t) d = Unit {0}
+  AsksAt (reach.Replies t) d = Unit {0}
+  AsksAt reach.Blocks d = Unit {0}
+
+  abbrev pub TurnAsks : Turned → Decider → Type 0
+  TurnAsks turn.On d = Unit {0}
+  TurnAsks (turn.To r) d = AsksAt r d
+
   -- how much is left to do
   abbrev pub waits_left : Waits → ℕ
   waits_left waits.Nothing = 0

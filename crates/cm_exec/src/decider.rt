@@ -15,7 +15,7 @@ ghost use Rattle.cm_exec.specs.Terms.{Doing, terms, question_of};
 ghost use Rattle.cm_exec.specs.Comparing.{Extends};
 ghost use Rattle.cm_exec.specs.declared.decider.Waits.TheVariants as waits;
 ghost use Rattle.cm_exec.specs.Deciding.{after, decides, awaited, awaited_if, goes_if, doing, turned, reached, left_in};
-ghost use Rattle.cm_exec.specs.Deciding.{GoesDown, ComesDown, IsAsking, Awaits, TurnAwaits, handed_in, goes_on};
+ghost use Rattle.cm_exec.specs.Deciding.{AsksAt, TurnAsks, GoesDown, ComesDown, IsAsking, Awaits, TurnAwaits, handed_in, goes_on};
 ghost use Rattle.cm_exec.specs.Deciding.{numbers_compared, presence_told, range_told, IsMet};
 
 use crate::comparison::{Comparison, Met, Sides, number_in, opt, right_payload};
@@ -186,6 +186,7 @@ impl Decider {
         ensures left { (codes : List (List Instr)) →
             GoesDown codes (2 * steps_left codes self.old.machine + 2) result self.new }
         ensures waits { TurnAwaits result self.new }
+        ensures asks { (codes : List (List Instr)) → TurnAsks codes result self.new }
     {
         match waits {
             Some(waits) => {
@@ -210,6 +211,7 @@ impl Decider {
         ensures left { IfOk result (λ r. GoesDown (with_body funs.now body.now)
             (2 * steps_left (with_body funs.now body.now) self.old.machine) r self.new) }
         ensures waits { IfOk result (λ r. TurnAwaits r self.new) }
+        ensures asks { IfOk result (λ r. TurnAsks (with_body funs.now body.now) r self.new) }
     {
         match go(alloc, funs, body, &mut self.machine)? {
             Event::Inspects(o, then) => Ok(self.wait_for(wait_for_bool(&o, then))),
@@ -352,6 +354,7 @@ impl Decider {
         ensures left { (codes : List (List Instr)) →
             GoesDown codes (2 * steps_left codes self.old.machine + 1) result self.new }
         ensures waits { TurnAwaits result self.new }
+        ensures asks { (codes : List (List Instr)) → TurnAsks codes result self.new }
     {
         if on {
             let _ = mem::replace(&mut self.waits, Waits::Nothing);
@@ -368,6 +371,7 @@ impl Decider {
         ensures left { IfOk result (λ r. (codes : List (List Instr)) →
             GoesDown codes (2 * steps_left codes self.old.machine + 1) r self.new) }
         ensures waits { IfOk result (λ r. TurnAwaits r self.new) }
+        ensures asks { IfOk result (λ r. (codes : List (List Instr)) → TurnAsks codes r self.new) }
     {
         match met {
             Met::Inspects(question) => Ok(Turned::To(Reached::Asks(question))),
@@ -394,6 +398,7 @@ impl Decider {
         ensures left { IfOk result (λ r. GoesDown (with_body funs.now body.now)
             (left_in (with_body funs.now body.now) self.old) r self.new) }
         ensures waits { IfOk result (λ r. TurnAwaits r self.new) }
+        ensures asks { IfOk result (λ r. TurnAsks (with_body funs.now body.now) r self.new) }
     {
         match &mut self.waits {
             Waits::Nothing => {
@@ -429,6 +434,7 @@ impl Decider {
             doing (with_body funs.now body.now) self.old ps
             ≡ reached (with_body funs.now body.now) r self.new ps) }
         ensures waits { IfOk result (λ r. Awaits r self.new) }
+        ensures asks { IfOk result (λ r. AsksAt (with_body funs.now body.now) r self.new) }
         ensures left { IfOk result (λ r. ComesDown (with_body funs.now body.now)
             (left_in (with_body funs.now body.now) self.old) r self.new) }
     {

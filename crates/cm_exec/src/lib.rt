@@ -5,10 +5,13 @@ mod compare;
 mod comparison;
 mod copies;
 mod decider;
+mod forks;
 mod operand;
+mod run;
 
 pub use compare::{Compare, Next, Progress};
 pub use comparison::{Comparison, Met, Sides};
+pub use run::{Ask, Run};
 
 #[cfg(test)]
 mod tests;
