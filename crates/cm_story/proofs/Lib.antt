@@ -1,0 +1,10 @@
+pub mod Compared
+pub mod Places
+pub mod Followed
+pub mod Runs
+pub mod Last
+pub mod Worlds
+pub mod Distinct
+pub mod Typed
+pub mod Local
+pub mod Seen

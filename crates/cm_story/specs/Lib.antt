@@ -1,0 +1,7 @@
+pub mod Tale
+pub mod Story
+pub mod Following
+pub mod Touches
+pub mod Local
+pub mod Running
+pub mod Seen
