@@ -8,6 +8,7 @@ use crate::show::{show_decisions, show_exceptions, show_outcome, show_touched, s
 use anyhow::{Result, bail};
 use cm_eval::{Args, Log, State, meets_invariant, run_call};
 use cm_model::{Model, Pair};
+use cm_story::{Ran, locality};
 use cm_value::Value;
 use cm_world::{World, commutes, is_world_of, path_of};
 use std::alloc::Global;
@@ -17,6 +18,7 @@ pub fn answer(rt: &HostRuntime, model: &Model, task: &str, rest: &str) -> Result
     match task {
         "run" => run(rt, model, rest),
         "world" => world(rt, model, rest),
+        "locality" => two_worlds(rt, model, rest),
         "met" => met(rt, model, rest),
         "states" => states(rt, model, rest),
         "count" => count(rt, model),
@@ -90,8 +92,18 @@ fn run_one(
     show_decisions(rt, log.steps.as_slice())
 }
 
-fn world(rt: &HostRuntime, model: &Model, rest: &str) -> Result<()> {
-    let mut parts = rest.split('/');
+// What a row says of a world: the pair, the cells of its state, the arguments of both calls, and the rest.
+#[derive(Clone, Copy)]
+struct WorldRow<'a> {
+    pair: Pair,
+    cells: &'a str,
+    a: &'a str,
+    b: &'a str,
+    rest: &'a str,
+}
+
+fn world_row(row: &str) -> Result<WorldRow<'_>> {
+    let mut parts = row.split('/');
     let (a, cells) = parts
         .next()
         .unwrap_or("")
@@ -102,10 +114,58 @@ fn world(rt: &HostRuntime, model: &Model, rest: &str) -> Result<()> {
         a: a.parse::<u16>()?,
         b: b.parse::<u16>()?,
     };
+    let a = parts.next().unwrap_or("");
+    let b = parts.next().unwrap_or("");
+    let rest = parts.next().unwrap_or("");
+    Ok(WorldRow {
+        pair,
+        cells,
+        a,
+        b,
+        rest,
+    })
+}
+
+// The world of a row with these cells in its state.
+fn world_with(rt: &HostRuntime, model: &Model, row: WorldRow<'_>, cells: &str) -> Result<World> {
     let init = state_of(rt.alloc(), model, cells)?;
-    let a = args_of(rt.alloc(), parts.next().unwrap_or(""))?;
-    let b = args_of(rt.alloc(), parts.next().unwrap_or(""))?;
-    show_world(rt, model, pair, &World { init, a, b })
+    let a = args_of(rt.alloc(), row.a)?;
+    let b = args_of(rt.alloc(), row.b)?;
+    Ok(World { init, a, b })
+}
+
+fn world(rt: &HostRuntime, model: &Model, rest: &str) -> Result<()> {
+    let row = world_row(rest)?;
+    let world = world_with(rt, model, row, row.cells)?;
+    show_world(rt, model, row.pair, &world)
+}
+
+// A world, and another one with the same arguments and other cells.
+fn two_worlds(rt: &HostRuntime, model: &Model, rest: &str) -> Result<()> {
+    let row = world_row(rest)?;
+    let world = world_with(rt, model, row, row.cells)?;
+    let other = world_with(rt, model, row, row.rest)?;
+    show_two(rt, model, row.pair, &world, &other)
+}
+
+fn show_two(
+    rt: &HostRuntime,
+    model: &Model,
+    pair: Pair,
+    first: &World,
+    second: &World,
+) -> Result<()> {
+    if !is_world_of(model, pair, first) || !is_world_of(model, pair, second) {
+        bail!("two worlds of the pair");
+    }
+    let (first, second) = locality(rt.alloc(), model, pair, first, second)?;
+    show_run(rt, &first)?;
+    show_run(rt, &second)
+}
+
+fn show_run(rt: &HostRuntime, run: &Ran) -> Result<()> {
+    print!(rt; "{}", if run.commutes { "commutes" } else { "differs" })?;
+    show_decisions(rt, run.path.as_slice())
 }
 
 fn show_world(rt: &HostRuntime, model: &Model, pair: Pair, world: &World) -> Result<()> {
