@@ -39,9 +39,8 @@ pub trait Facts {
             ++ piece_of model.now ty.now at.now.root (counts self.old) ∷ []) }
         ensures counts { OnOk result (counts self.new
             ≡ counted (counts self.old) (piece_of model.now ty.now at.now.root (counts self.old)).variables) }
-        ensures satisfied { OnOk result ((v : Valuation)
-            → Gives (counts self.old) (piece_of model.now ty.now at.now.root (counts self.old)).variables v
-            → satisfied self.new v ↔ satisfied self.old v) };
+        ensures satisfied { OnOk result ((v : Valuation) → satisfied self.new v ↔ (satisfied self.old v
+            × Gives (counts self.old) (piece_of model.now ty.now at.now.root (counts self.old)).variables v)) };
 
     /// The term of the option's payload, whether it is decided or not. It takes no memory.
     fn payload_of(&self, o: OptVar) -> &Term
