@@ -1,6 +1,6 @@
 -- What is asked of two terms, form by form.
-use Rattle.std.proofs.Common.{◌≡◌, ◌<◌, ℕ, zero, suc, ◌+◌, ◌==◌, Bool, true, false, List, [], ◌∷◌, ◌++◌, map, take, drop}
-use Rattle.std.proofs.Common.{reverse, slice_get, Option, Some, None, refl, sym, ap, ◌∙◌, subst, arith, if◌then◌else◌}
+use Rattle.std.proofs.Common.{◌≡◌, ℕ, Bool, true, false, List, [], map}
+use Rattle.std.proofs.Common.{reverse, slice_get, Option, Some, None, refl, sym, ap, ◌∙◌}
 use Rattle.std.proofs.Math.Path.{fun_ext}
 use Rattle.cm_model.specs.declared.variable.SortVar.{SortVar}
 use Rattle.cm_term.specs.declared.atom.Num.{Num}
@@ -10,21 +10,19 @@ use Rattle.cm_term.specs.declared.atom.Opt.TheVariants as opt
 use Rattle.cm_term.specs.declared.question.Equal.TheVariants as equal
 use Rattle.cm_term.specs.declared.term.Term.{Term, out-Term}
 use Rattle.cm_term.specs.declared.term.Term.TheVariants as term
-use Rattle.cm_term.specs.declared.term.Term.TheViews.{roll-Term, roll-out-Term}
+use Rattle.cm_term.specs.declared.term.Term.TheViews.{roll-out-Term}
 use Rattle.cm_term.specs.declared.term.Term.TheOpen.{Term-F}
-use Rattle.cm_term.specs.declared.term.Term.TheFolds.{fold-Term, fold-roll-Term, map-Term}
+use Rattle.cm_term.specs.declared.term.Term.TheFolds.{fold-roll-Term, map-Term}
 use Rattle.cm_term.proofs.Folds.{fold-elem, fold-num, fold-tag, fold-rec}
 use Rattle.cm_cells.specs.Comparison.{elem_in, num_in, tag_in, fields_in}
-use Rattle.std.proofs.lemmas.List.{reverse-append}
-use Rattle.cm_exec.specs.Asking.{Asking, Stops, Says, Inspects, Meets, bound, Asker, or_stops, opt_in, opt_of, payload_in}
-use Rattle.cm_exec.specs.Asking.{payload_of, tags_asked, fields_asked, option_step, options_asked, asks_step, asks_in}
-use Rattle.cm_exec.specs.Asking.{askers, askers_below, asks_below}
+use Rattle.cm_exec.specs.Asking.{Asking, Stops, Says, Inspects, Meets, bound, Asker, or_stops, opt_in, opt_of}
+use Rattle.cm_exec.specs.Asking.{payload_of, tags_asked, fields_asked, option_step, options_asked, asks_step}
+use Rattle.cm_exec.specs.Asking.{askers_below, asks_below}
 use Rattle.cm_exec.specs.declared.comparison.Fields.{Fields}
 use Rattle.cm_exec.specs.declared.comparison.Pair.{Pair}
 use Rattle.cm_exec.specs.declared.comparison.Waiting.{Waiting}
 use Rattle.cm_exec.specs.declared.comparison.Waiting.TheVariants as wait
-use Rattle.cm_exec.specs.Comparing.{answered, waiting_for, asker_of, asker_in, looks, fields_of, after, at, weight}
-use Rattle.cm_exec.specs.Comparing.{all_weights, weight_step, frame_weight, frames_weight}
+use Rattle.cm_exec.specs.Comparing.{answered, waiting_for, asker_of, asker_in, looks, after, at}
 
 -- one thing after another, and a third after both
 pub bound_bound : (a : Asking) (f g : Bool → Asking) → bound (bound a f) g ≡ bound a (λ s. bound (f s) g)
@@ -75,31 +73,6 @@ module _ (ps : List Term) where
   asks_option n t l u e = ap (λ (f : Asker). f u) (layer n t) ∙ option_layer n (out-Term t) l u e
 
   -- looks at two terms, by what the right one is
-  pub element_looked : (fs : List Fields) (n : Option ℕ) (x : SortVar) (u : Term) (o : Option SortVar)
-      → o ≡ elem_in (out-Term u)
-      → at ps fs (asks_below ps n (term.Elem x) u) ≡ bound (or_stops o (λ y. Meets (equal.Elems x y) Says))
-      (after ps (reverse fs))
-  element_looked fs n x u o e = ap (λ a. bound a (after ps (reverse fs)))
-      (asks_elem n x u ∙ ap (λ p. or_stops p (λ y. Meets (equal.Elems x y) Says)) (sym e))
-
-  pub number_looked : (fs : List Fields) (n : Option ℕ) (a : Num) (u : Term) (o : Option Num) → o ≡ num_in (out-Term u)
-      → at ps fs (asks_below ps n (term.Num a) u) ≡ bound (or_stops o (λ b. Meets (equal.Nums a b) Says))
-      (after ps (reverse fs))
-  number_looked fs n a u o e = ap (λ s. bound s (after ps (reverse fs)))
-      (asks_num n a u ∙ ap (λ p. or_stops p (λ b. Meets (equal.Nums a b) Says)) (sym e))
-
-  pub tag_looked : (fs : List Fields) (n : Option ℕ) (a : Tag) (u : Term) (o : Option Tag) → o ≡ tag_in (out-Term u)
-      → at ps fs (asks_below ps n (term.Tag a) u) ≡ bound (or_stops o (tags_asked a)) (after ps (reverse fs))
-  tag_looked fs n a u o e = ap (λ s. bound s (after ps (reverse fs)))
-      (asks_tag n a u ∙ ap (λ p. or_stops p (tags_asked a)) (sym e))
-
-  pub fields_looked : (fs : List Fields) (n : Option ℕ) (ts : List Term) (u : Term) (o : Option (List Term))
-      → o ≡ fields_in (out-Term u)
-      → at ps fs (asks_below ps n (term.Rec ts) u)
-      ≡ bound (or_stops o (fields_asked (map (asks_below ps n) ts))) (after ps (reverse fs))
-  fields_looked fs n ts u o e = ap (λ s. bound s (after ps (reverse fs)))
-      (asks_rec n ts u ∙ ap (λ p. or_stops p (fields_asked (map (asks_below ps n) ts))) (sym e))
-
   pub option_looked : (fs : List Fields) (p : Pair) (l : Opt) (o : Option Opt) → opt_of p.sides.left ≡ Some l
       → o ≡ opt_of p.sides.right
       → at ps fs (looks ps p) ≡ bound (or_stops o (λ r. options_asked l r (asker_of ps p.below p.sides.left)
@@ -108,28 +81,6 @@ module _ (ps : List Term) where
       (asks_option p.below p.sides.left l p.sides.right e
       ∙ ap (λ q. or_stops q (λ r. options_asked l r (asker_of ps p.below p.sides.left)
       (payload_of ps p.sides.right))) (sym f))
-
-  -- the fields of two records are asked in a new frame
-  pub deeper : (old new : List Fields) (f : Fields) → new ≡ old ++ f ∷ []
-      → bound (fields_of ps f) (after ps (reverse old)) ≡ after ps (reverse new) true
-  deeper old new f e = sym (ap (λ fs. after ps fs true) (ap reverse e ∙ reverse-append old (f ∷ [])))
-
--- what a term weighs
-pub weight_rec : (ts : List Term) → weight (term.Rec ts) ≡ 2 + all_weights (map weight ts)
-weight_rec ts = fold-rec weight_step ts
-
-pub weighs : (t : Term) → 0 < weight t
-weighs t = subst (λ w. 0 < w)
-    (sym (ap weight (sym (roll-out-Term t)) ∙ fold-roll-Term ℕ weight_step (out-Term t))) (some (out-Term t))
-  where
-    some : (y : Term-F Term) → 0 < weight_step (map-Term Term ℕ weight y)
-    some (Term-F.Elem x) = omega arith
-    some (Term-F.Num a) = omega arith
-    some (Term-F.Tag a) = omega arith
-    some (Term-F.Rec ts) = omega arith
-    some Term-F.None = omega arith
-    some (Term-F.Some t) = omega arith
-    some (Term-F.Either o) = omega arith
 
 -- the terms that are looked at, by the left one
 pub elsewhere : (ps : List Term) (fs : List Fields) (p : Pair) (t : Term) → p.sides.left ≡ t

@@ -1,13 +1,13 @@
 -- A call's code on terms does what the call does.
-use Rattle.std.proofs.Common.{◌≡◌, ℕ, List, [], ◌∷◌, map, length, slice_get, Option, Some, None, refl, sym, ap, ◌∙◌}
+use Rattle.std.proofs.Common.{◌≡◌, ℕ, List, [], slice_get, Option, Some, None, refl, ap, ◌∙◌}
 use Rattle.std.specs.Option.{option_map}
 use Rattle.std.proofs.lemmas.Option.{slice_get-map}
 use Rattle.cm_model.specs.Tables.{Tables}
 use Rattle.cm_model.specs.declared.body.Call.{Call}
 use Rattle.cm_code.specs.declared.instr.Instr.{Instr}
 use Rattle.cm_code.specs.Code.{code_meaning, codes_from}
-use Rattle.cm_code.specs.Compiling.{body_code, bodies_code}
-use Rattle.cm_code.specs.Language.{Called, meanings, body_of}
+use Rattle.cm_code.specs.Compiling.{body_code}
+use Rattle.cm_code.specs.Language.{Called, meanings}
 use Rattle.cm_code.specs.Machine.{or_empty}
 use Rattle.cm_code.proofs.RightTurns.{called_right, funs_right}
 use Rattle.cm_eval.specs.declared.code.Code.{Code}

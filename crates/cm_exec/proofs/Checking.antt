@@ -1,6 +1,6 @@
 -- A new cell's invariant, by its code.
-use Rattle.std.proofs.Common.{◌≡◌, ℕ, ◌+◌, ◌-◌, Bool, true, false, List, [], ◌∷◌, ◌++◌, length, slice_get, Option, Some, None}
-use Rattle.std.proofs.Common.{refl, sym, ap, ◌∙◌, arith, append_assoc}
+use Rattle.std.proofs.Common.{◌≡◌, ℕ, true, false, List, [], ◌∷◌, slice_get, Option, Some, None}
+use Rattle.std.proofs.Common.{refl, sym, ap, ◌∙◌}
 use Rattle.std.specs.Option.{option_map}
 use Rattle.std.proofs.lemmas.Option.{slice_get-map}
 use Rattle.cm_model.specs.Tables.{Tables}
@@ -15,7 +15,7 @@ use Rattle.cm_term.specs.declared.term.Term.{Term}
 use Rattle.cm_cells.specs.CellTable.{CellTable}
 use Rattle.cm_exec.specs.declared.operand.Operand.{Operand}
 use Rattle.cm_exec.specs.Terms.{Plan, Doing, terms}
-use Rattle.cm_exec.specs.Run.{Telling, asked, checked, invariant_in, declared_in, invariants_of}
+use Rattle.cm_exec.specs.Run.{Telling, checking, checked, invariant_in, declared_in, invariants_of}
 use Rattle.cm_exec.specs.Running.{is_there, if_there, invariant_or_none}
 
 module _ (m : Tables) (ps : List Term) (t : Term) (cs : CellTable) (more : Telling) where
@@ -24,14 +24,14 @@ module _ (m : Tables) (ps : List Term) (t : Term) (cs : CellTable) (more : Telli
       terms.replies ps
 
   one : (inv : Option Expr) (i : Option (Option (List Instr))) → i ≡ Some (invariant_code_of m.ints inv)
-      → is_there i ≡ true → checked (invariant_in m.ints ps inv) t cs more ≡ asked (by_code i) cs more
+      → is_there i ≡ true → checked (invariant_in m.ints ps inv) t cs more ≡ checking (by_code i) cs more
   one None i e there = absurd (let not_there : is_there i ≡ false = ap is_there e in cc)
-  one (Some x) i e there = ap (λ p. asked p cs more)
+  one (Some x) i e there = ap (λ p. checking p cs more)
       (sym (ap by_code e ∙ ap (λ (f : Doing). f ps) (invariant_right Term Operand Doing terms m.ints x t)))
 
   of_state : (o : Option StateDecl) (i : Option (Option (List Instr)))
       → i ≡ option_map (λ d. invariant_code_of m.ints d.inv) o → is_there i ≡ true
-      → checked (invariant_or_none (declared_in m.ints ps o)) t cs more ≡ asked (by_code i) cs more
+      → checked (invariant_or_none (declared_in m.ints ps o)) t cs more ≡ checking (by_code i) cs more
   of_state (Some d) i e there = one d.inv i e there
   of_state None i e there = absurd (let not_there : is_there i ≡ false = ap is_there e in cc)
 
@@ -52,7 +52,7 @@ module _ (m : Tables) (ps : List Term) (t : Term) (cs : CellTable) (more : Telli
 
     pub checked_by_code : is_there (slice_get c.invariants s) ≡ true
         → checked (invariant_or_none (invariants_of m ps s)) t cs more
-        ≡ asked (by_code (slice_get c.invariants s)) cs more
+        ≡ checking (by_code (slice_get c.invariants s)) cs more
     checked_by_code there = of_state (slice_get m.states s) (slice_get c.invariants s) at there
 
     pub unchecked : is_there (slice_get c.invariants s) ≡ false

@@ -8,3 +8,4 @@ pub mod Checking
 pub mod Going
 pub mod Beginning
 pub mod Telling
+pub mod Growing

@@ -1,7 +1,6 @@
 -- Pairs of terms, one after another.
-use Rattle.std.proofs.Common.{◌≡◌, ℕ, zero, suc, ◌+◌, List, [], ◌∷◌, drop, slice_get, Option, Some, None, refl, sym, ap}
-use Rattle.std.proofs.Common.{◌∙◌, subst, arith}
-use Rattle.cm_term.specs.declared.question.Question.{Question}
+use Rattle.std.proofs.Common.{◌≡◌, ℕ, ◌+◌, List, drop, slice_get, Some, None, refl, sym, ap}
+use Rattle.std.proofs.Common.{◌∙◌}
 use Rattle.cm_term.specs.declared.question.Equal.{Equal}
 use Rattle.cm_term.specs.declared.term.Term.{Term}
 use Rattle.cm_exec.specs.declared.comparison.Sides.{Sides}

@@ -1,6 +1,7 @@
 -- What is asked of the payload of a variable.
-use Rattle.std.proofs.Common.{◌≡◌, ◌<◌, ◌≤◌, ℕ, zero, suc, ◌+◌, Bool, List, [], ◌∷◌, ◌++◌, take, length, slice_get}
+use Rattle.std.proofs.Common.{◌≡◌, ◌<◌, ◌≤◌, ℕ, zero, suc, ◌+◌, List, [], ◌∷◌, ◌++◌, take, length, slice_get}
 use Rattle.std.proofs.Common.{Option, Some, None, refl, sym, ap, ◌∙◌, arith, append_assoc}
+use Rattle.std.proofs.Math.Seq.{take-append_seam}
 use Rattle.std.proofs.lemmas.List.{length-append, append-nil}
 use Rattle.cm_term.specs.declared.term.Term.{Term}
 use Rattle.cm_exec.specs.Asking.{Asker, askers, askers_from, askers_below, asks_in, asks_below}
@@ -18,11 +19,6 @@ take_above zero (suc i) xs le = refl
 take_above (suc n) zero xs le = absurd (omega arith)
 take_above (suc n) (suc i) [] le = refl
 take_above (suc n) (suc i) (x ∷ xs) le = take_above n i xs (omega arith)
-
-take_front : {X : Type 0} (xs ys : List X) → take (length xs) (xs ++ ys) ≡ xs
-take_front [] [] = refl
-take_front [] (y ∷ ys) = refl
-take_front (x ∷ xs) ys = ap (λ zs. x ∷ zs) (take_front xs ys)
 
 get_behind : {X : Type 0} (xs ys : List X) (y : X) → slice_get (xs ++ y ∷ ys) (length xs) ≡ Some y
 get_behind [] ys y = refl
@@ -54,7 +50,7 @@ module _ (ps : List Term) where
       ∙ ap (λ v. Some (asks_in ps before v)) same
       ∙ sym (ap (λ ms. Some (asks_in ps ms t))
       (ap (λ m. take m (askers_from ps before (u ∷ ts))) n
-      ∙ ap (take (length before)) whole ∙ take_front before (asks_in ps before u ∷ r.0)))
+      ∙ ap (take (length before)) whole ∙ take-append_seam before (asks_in ps before u ∷ r.0)))
   one before (u ∷ ts) (suc i) t e =
       let k : length before + suc i ≡ length (before ++ asks_in ps before u ∷ []) + i
       = omega (arith, length-append before (asks_in ps before u ∷ [])) in

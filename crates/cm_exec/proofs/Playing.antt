@@ -11,7 +11,7 @@ use Rattle.cm_exec.specs.declared.decider.Decider.{Decider}
 use Rattle.cm_exec.specs.declared.decider.Reached.TheVariants as reach
 use Rattle.cm_exec.specs.declared.decider.Turned.{Turned}
 use Rattle.cm_exec.specs.declared.decider.Turned.TheVariants as turn
-use Rattle.cm_exec.specs.Deciding.{after, left_in, GoesDown}
+use Rattle.cm_exec.specs.Deciding.{after, GoesDown}
 use Rattle.cm_exec.specs.declared.operand.Operand.{Operand}
 use Rattle.cm_term.specs.declared.term.Term.{Term}
 use Rattle.cm_code.specs.declared.event.Event.{Event}

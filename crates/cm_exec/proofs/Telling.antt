@@ -1,18 +1,14 @@
 -- What comes after an outcome is what was waited for.
-use Rattle.std.proofs.Common.{◌≡◌, ℕ, Bool, List, Option, [], ◌∷◌, ◌++◌, refl, sym, ap, ◌∙◌, subst}
-use Rattle.std.proofs.lemmas.List.{append-nil}
-use Rattle.cm_model.specs.Tables.{Tables}
+use Rattle.std.proofs.Common.{◌≡◌, ℕ, Bool, List, Option, refl}
 use Rattle.cm_code.specs.declared.instr.Instr.{Instr}
 use Rattle.cm_code.specs.declared.event.Machine.{Machine}
 use Rattle.cm_term.specs.declared.term.Term.{Term}
-use Rattle.cm_cells.specs.declared.search.Touched.TheVariants as touched
 use Rattle.cm_cells.specs.CellTable.{CellTable}
 use Rattle.cm_cells.specs.declared.order.Order.{Order}
 use Rattle.cm_exec.specs.declared.operand.Operand.{Operand}
 use Rattle.cm_exec.specs.declared.comparison.Fields.{Fields}
 use Rattle.cm_exec.specs.declared.comparison.Stage.{Stage}
 use Rattle.cm_exec.specs.declared.comparison.Stage.TheVariants as stage
-use Rattle.cm_exec.specs.declared.comparison.Waiting.{Waiting}
 use Rattle.cm_exec.specs.declared.comparison.Waiting.TheVariants as wait
 use Rattle.cm_exec.specs.declared.decider.Decision.{Decision}
 use Rattle.cm_exec.specs.declared.decider.Decision.TheVariants as decision
@@ -21,14 +17,14 @@ use Rattle.cm_exec.specs.declared.decider.Waits.TheVariants as waits
 use Rattle.cm_exec.specs.Terms.{Plan, played}
 use Rattle.cm_exec.specs.Comparing.{staged, IsWaiting}
 use Rattle.cm_exec.specs.Deciding.{after, decides, awaited, IsAsking}
-use Rattle.cm_exec.specs.Run.{Telling, Invariant, play, asked}
+use Rattle.cm_exec.specs.Run.{Telling, Invariant, play, checking}
 use Rattle.cm_exec.specs.Running.{told_after}
 
 -- a plan that stands at a decision
 abbrev Stands : Plan → Type 0
 Stands s = ((inv : ℕ → Option Invariant) (o : Order) (cs : CellTable) (d : ℕ)
     → play inv o (after s d) cs ≡ told_after (play inv o s cs) d)
-    × ((cs : CellTable) (more : Telling) (d : ℕ) → asked (after s d) cs more ≡ told_after (asked s cs more) d)
+    × ((cs : CellTable) (more : Telling) (d : ℕ) → checking (after s d) cs more ≡ told_after (checking s cs more) d)
 
 module _ (codes : List (List Instr)) (m : Machine Term Operand) (ps : List Term) where
   decided : (x : Decision) → Stands (decides codes m x ps)

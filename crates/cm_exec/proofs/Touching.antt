@@ -1,11 +1,8 @@
 -- Touches read in two ways: with the answers so far, and as a tale.
-use Rattle.std.proofs.Common.{◌≡◌, ◌<◌, ◌≤◌, length, arith, ℕ, ◌+◌, ◌==◌, Bool, true, false, List, [], ◌∷◌, ◌++◌, map, Option, Some, None, refl}
-use Rattle.std.proofs.Common.{subst, sym, ap, ◌∙◌, if◌then◌else◌}
+use Rattle.std.proofs.Common.{◌≡◌, ◌<◌, ◌≤◌, length, arith, ℕ, ◌+◌, ◌==◌, Bool, true, false, List, [], ◌∷◌, ◌++◌, map}
+use Rattle.std.proofs.Common.{Option, Some, None, refl}
+use Rattle.std.proofs.Common.{subst, sym, ap, if◌then◌else◌}
 use Rattle.std.proofs.Math.Path.{fun_ext}
-use Rattle.cm_model.specs.declared.variable.SortVar.{SortVar}
-use Rattle.cm_term.specs.declared.atom.Num.{Num}
-use Rattle.cm_term.specs.declared.atom.Tag.{Tag}
-use Rattle.cm_term.specs.declared.atom.OptVar.{OptVar}
 use Rattle.cm_term.specs.declared.question.Question.{Question}
 use Rattle.cm_term.specs.declared.question.Question.TheVariants as question
 use Rattle.cm_term.specs.declared.term.Term.{Term, out-Term}
@@ -13,12 +10,13 @@ use Rattle.cm_term.specs.declared.term.Term.TheVariants as term
 use Rattle.cm_term.proofs.Folds as folds
 use Rattle.cm_term.proofs.Induction.{Each, term_ind}
 use Rattle.cm_cells.specs.declared.search.Touched.TheVariants as touched
-use Rattle.cm_cells.specs.CellTable.{Place}
+use Rattle.cm_cells.specs.CellTable.{CellTable, Place}
 use Rattle.cm_cells.specs.Comparison.{Comparing, comparing, comparing_step, fields_compared, tags_compared, or_differ}
 use Rattle.cm_cells.specs.Comparison.{elem_in, num_in, tag_in, fields_in}
-use Rattle.cm_cells.specs.Touching.{places_compared, keys_compared, touching, Answering, asked, next_of}
-use Rattle.cm_exec.specs.Tale.{Tale, Asks, Needs, Ends}
+use Rattle.cm_cells.specs.Touching.{keys_compared, touching, Answering, asked, next_of}
+use Rattle.cm_story.specs.Tale.{Asks}
 use Rattle.cm_exec.specs.Run.{Telling}
+use Rattle.cm_exec.specs.Run.{asked as asked_with}
 use Rattle.cm_exec.specs.Running.{Answered, asks_on, touch_after, Stands}
 
 -- two readers that go side by side
@@ -72,7 +70,8 @@ module _ (X Y : Type 0) (R : X → Y → Type 0) (ask : Question → (ℕ → X)
       (λ b. both (question.Nums a b) (λ d. k (d == 1)) (λ d. l (d == 1)) (λ d. h (d == 1)))))
       (λ a. by_steps (term.Tag a) _ _ (folds.fold-tag (comparing_step X ask) a)
       (folds.fold-tag (comparing_step Y asks) a)
-      (λ u k l h. or_beside (tag_in (out-Term u)) k l (λ b. tags_compared X ask a b k) (λ b. tags_compared Y asks a b l) h
+      (λ u k l h. or_beside (tag_in (out-Term u)) k l (λ b. tags_compared X ask a b k)
+      (λ b. tags_compared Y asks a b l) h
       (λ b. both (question.TagOf a) (λ d. ask (question.TagOf b) (λ e. k (d == e)))
       (λ d. asks (question.TagOf b) (λ e. l (d == e)))
       (λ d. both (question.TagOf b) (λ e. k (d == e)) (λ e. l (d == e)) (λ e. h (d == e))))))
@@ -115,26 +114,26 @@ module _ (X Y : Type 0) (R : X → Y → Type 0) (ask : Question → (ℕ → X)
           (touching Y asks qs (i + 1) p finds new) (f i) later
 
 -- with no answer a touch is asked from its beginning
-pub touch_begins : (qs : List Place) (p : Place) (found : ℕ → Telling) (fresh : Telling)
-    → touch_after qs p [] found fresh ≡ touching Telling Asks qs 0 p found fresh
-touch_begins qs p found fresh =
-    touch_beside Answered Telling (λ x y. x [] ≡ y) asks_on Asks
-    (λ q k l e. ap (Asks q) (fun_ext (λ d. e d)))
-    qs 0 p (λ n rest. found n) found (λ rest. fresh) fresh (λ n. refl) refl
+pub touch_begins : (cs : CellTable) (p : Place) (found : ℕ → Telling) (fresh : Telling)
+    → touch_after cs p [] found fresh ≡ touching Telling (λ q. Asks (asked_with q cs)) cs.places 0 p found fresh
+touch_begins cs p found fresh =
+    touch_beside Answered Telling (λ x y. x [] ≡ y) (asks_on cs) (λ q. Asks (asked_with q cs))
+    (λ q k l e. ap (Asks (asked_with q cs)) (fun_ext (λ d. e d)))
+    cs.places 0 p (λ n rest. found n) found (λ rest. fresh) fresh (λ n. refl) refl
 
 -- where a touch stands after its answers
-pub touch_stands : (qs : List Place) (p : Place) (answers : List ℕ) (found : ℕ → Telling) (fresh : Telling)
-    → Stands (next_of qs p answers) (λ more. touch_after qs p (answers ++ more) found fresh) found fresh
-touch_stands qs p answers found fresh =
-    touch_beside Answering Answered Fits asked asks_on
-    (λ q k l e. fits q k l e) qs 0 p (λ n rest. touched.Cell n) (λ n rest. found n)
+pub touch_stands : (cs : CellTable) (p : Place) (answers : List ℕ) (found : ℕ → Telling) (fresh : Telling)
+    → Stands cs (next_of cs.places p answers) (λ more. touch_after cs p (answers ++ more) found fresh) found fresh
+touch_stands cs p answers found fresh =
+    touch_beside Answering Answered Fits asked (asks_on cs)
+    (λ q k l e. fits q k l e) cs.places 0 p (λ n rest. touched.Cell n) (λ n rest. found n)
     (λ rest. touched.New) (λ rest. fresh) (λ n rest. refl) (λ rest. refl) answers
   where
     Fits : Answering → Answered → Type 0
-    Fits x y = (front : List ℕ) → Stands (x front) (λ more. y (front ++ more)) found fresh
+    Fits x y = (front : List ℕ) → Stands cs (x front) (λ more. y (front ++ more)) found fresh
 
     fits : (q : Question) (k : ℕ → Answering) (l : ℕ → Answered) → ((d : ℕ) → Fits (k d) (l d))
-        → Fits (asked q k) (asks_on q l)
+        → Fits (asked q k) (asks_on cs q l)
     fits q k l e [] = refl
     fits q k l e (a ∷ front) = e a front
 

@@ -1,7 +1,6 @@
 -- What the comparison of two terms asks.
 use Rattle.std.specs.Prelude.{ℕ, ◌==◌, Bool, true, false, List, [], ◌∷◌, ◌++◌, take, slice_get, Option, Some, None}
 use Rattle.std.specs.Prelude.{if◌then◌else◌}
-use Rattle.cm_term.specs.declared.atom.Num.{Num}
 use Rattle.cm_term.specs.declared.atom.Tag.{Tag}
 use Rattle.cm_term.specs.declared.atom.Opt.{Opt}
 use Rattle.cm_term.specs.declared.atom.Opt.TheVariants as opt

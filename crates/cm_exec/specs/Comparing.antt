@@ -1,8 +1,6 @@
 -- What a comparison in its midst still asks.
-use Rattle.std.specs.Prelude.{◌≡◌, ◌<◌, ℕ, ◌+◌, ◌==◌, Bool, true, false, List, [], ◌∷◌, ◌++◌, map, take, drop, reverse}
-use Rattle.std.specs.Prelude.{slice_get, Option, Some, None, if◌then◌else◌}
-use Rattle.cm_term.specs.declared.question.Question.{Question}
-use Rattle.cm_term.specs.declared.question.Equal.{Equal}
+use Rattle.std.specs.Prelude.{◌≡◌, ◌<◌, ℕ, ◌+◌, Bool, true, false, List, [], ◌∷◌, ◌++◌, map, drop, reverse}
+use Rattle.std.specs.Prelude.{slice_get, Option, Some, None}
 use Rattle.cm_term.specs.declared.term.Term.{Term, out-Term}
 use Rattle.cm_term.specs.declared.term.Term.TheOpen.{Term-F}
 use Rattle.cm_term.specs.declared.term.Term.TheFolds.{fold-Term}

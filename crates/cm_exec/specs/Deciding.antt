@@ -4,10 +4,9 @@ use Rattle.cm_code.specs.declared.instr.Instr.{Instr}
 use Rattle.cm_code.specs.declared.event.Machine.{Machine}
 use Rattle.cm_code.specs.Machine.{script, handed, told, ranked_in, opened_in}
 use Rattle.cm_code.specs.Steps.{steps_left}
-use Rattle.cm_eval.specs.Script.{Script, Replies, Blocks, Decides, Reads, Writes, given}
+use Rattle.cm_eval.specs.Script.{Replies, Blocks, Decides, Reads, Writes, given}
 use Rattle.cm_code.specs.declared.event.Then.{Then}
 use Rattle.cm_term.specs.declared.atom.Num.{Num}
-use Rattle.cm_term.specs.declared.question.Question.{Question}
 use Rattle.cm_term.specs.declared.question.Question.TheVariants as question
 use Rattle.cm_term.specs.declared.term.Term.{Term}
 use Rattle.cm_term.specs.declared.term.Term.TheVariants as term

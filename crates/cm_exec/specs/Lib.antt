@@ -3,7 +3,6 @@ pub mod Terms
 pub mod Comparing
 pub mod Deciding
 pub mod Settling
-pub mod Tale
 pub mod Run
 pub mod Running
 pub mod Pairing

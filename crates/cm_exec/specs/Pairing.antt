@@ -3,7 +3,6 @@ use Rattle.std.specs.Prelude.{◌≡◌, ◌<◌, ℕ, ◌+◌, ◌*◌, List, l
 use Rattle.cm_term.specs.declared.question.Equal.{Equal}
 use Rattle.cm_term.specs.declared.term.Term.{Term}
 use Rattle.cm_exec.specs.declared.comparison.Sides.{Sides}
-use Rattle.cm_exec.specs.declared.comparison.Comparison.{Comparison}
 use Rattle.cm_exec.specs.declared.compare.Compare.{Compare}
 use Rattle.cm_exec.specs.declared.compare.Progress.{Progress}
 use Rattle.cm_exec.specs.declared.compare.Progress.TheVariants as progress

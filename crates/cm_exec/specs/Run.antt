@@ -1,6 +1,6 @@
 -- What a run of a call on terms asks, and the cells that it leaves.
-use Rattle.std.specs.Prelude.{ℕ, suc, ◌+◌, ltb, Bool, List, [], ◌∷◌, length, slice_get, get_or, Option, Some, None}
-use Rattle.std.specs.Prelude.{if◌then◌else◌}
+use Rattle.std.specs.Prelude.{ℕ, ◌+◌, ◌≡◌, ◌↔◌, ltb, List, [], ◌∷◌, ◌++◌, length, slice_get, get_or}
+use Rattle.std.specs.Prelude.{Option, Some, None, if◌then◌else◌}
 use Rattle.cm_model.specs.Limits.{cell_limit}
 use Rattle.cm_model.specs.Tables.{Tables}
 use Rattle.cm_model.specs.declared.ty.IntDecl.{IntDecl}
@@ -15,14 +15,16 @@ use Rattle.cm_term.specs.declared.question.Question.{Question}
 use Rattle.cm_term.specs.declared.symbol.Root.TheVariants as root
 use Rattle.cm_term.specs.declared.term.Term.{Term}
 use Rattle.cm_term.specs.declared.term.Term.TheVariants as term
+use Rattle.cm_term.specs.Valuation.{Valuation}
 use Rattle.cm_cells.specs.declared.order.Order.{Order}
 use Rattle.cm_cells.specs.CellTable.{CellTable, Place, with_cell, with_term, terms_in}
 use Rattle.cm_cells.specs.Touching.{touching}
 use Rattle.cm_ctx.specs.declared.piece.Counts.{Counts}
 use Rattle.cm_ctx.specs.declared.piece.Piece.{Piece}
 use Rattle.cm_ctx.specs.Making.{counted, piece_of}
+use Rattle.cm_ctx.specs.Giving.{Gives}
 use Rattle.cm_exec.specs.declared.operand.Operand.{Operand}
-use Rattle.cm_exec.specs.Tale.{Tale, Asks, Needs, Ends}
+use Rattle.cm_story.specs.Tale.{Tale, Asks, Needs, Ends}
 use Rattle.cm_exec.specs.Terms.{Plan, Doing, terms}
 
 -- the plan of a state's invariant for a cell's term, if the state is there and has one
@@ -34,20 +36,28 @@ pub data End : Type 0 where
   Replied : Term → CellTable → End
   Blocked : CellTable → End
 
+-- a question, with the cells that stand when it is asked
+pub record Asked : Type 0 where
+  pub question : Question
+  pub cells : CellTable
+
+abbrev pub asked : Question → CellTable → Asked
+asked q cs = record { question = q; cells = cs }
+
 abbrev pub Telling : Type 0
-Telling = Tale Question Place Term End
+Telling = Tale Asked Place Term End
 
 -- an invariant's plan, which touches no cell: where it replies the run goes on, and else it is blocked
-abbrev pub asked : Plan → CellTable → Telling → Telling
-asked (Replies t) cs more = more
-asked Blocks cs more = Ends (Blocked cs)
-asked (Decides q f) cs more = Asks q (λ d. asked (f d) cs more)
-asked (Reads p f) cs more = Ends (Blocked cs)
-asked (Writes p t s) cs more = Ends (Blocked cs)
+abbrev pub checking : Plan → CellTable → Telling → Telling
+checking (Replies t) cs more = more
+checking Blocks cs more = Ends (Blocked cs)
+checking (Decides q f) cs more = Asks (asked q cs) (λ d. checking (f d) cs more)
+checking (Reads p f) cs more = Ends (Blocked cs)
+checking (Writes p t s) cs more = Ends (Blocked cs)
 
 abbrev pub checked : Invariant → Term → CellTable → Telling → Telling
 checked None t cs more = more
-checked (Some f) t cs more = asked (f t) cs more
+checked (Some f) t cs more = checking (f t) cs more
 
 -- what is done with a touched cell, by its number
 abbrev pub Used : Type 0
@@ -62,7 +72,8 @@ added i p cs k = Needs p (given i p cs k)
 
 -- a touch
 abbrev pub touched_with : Option Invariant → Place → CellTable → Used → Telling
-touched_with (Some i) p cs k = touching Telling Asks cs.places 0 p (λ n. k n cs) (added i p cs k)
+touched_with (Some i) p cs k =
+    touching Telling (λ q. Asks (asked q cs)) cs.places 0 p (λ n. k n cs) (added i p cs k)
 touched_with None p cs k = Ends (Blocked cs)
 
 abbrev pub term_in : Order → CellTable → ℕ → Term
@@ -76,7 +87,7 @@ module _ (invariants : ℕ → Option Invariant) (o : Order) where
   abbrev pub play : Plan → CellTable → Telling
   play (Replies t) cs = Ends (Replied t cs)
   play Blocks cs = Ends (Blocked cs)
-  play (Decides q f) cs = Asks q (λ d. play (f d) cs)
+  play (Decides q f) cs = Asks (asked q cs) (λ d. play (f d) cs)
   play (Reads p f) cs = touched p cs (λ n more. play (f (term_in o more n)) more)
   play (Writes p t s) cs = touched p cs (λ n more. play s (with_term o n t more))
 
@@ -94,7 +105,8 @@ invariants_of t ps s = declared_in t.ints ps (slice_get t.states s)
 
 abbrev pub plan_in : Tables → List Term → Option Call → List Term → Plan
 plan_in t args (Some d) ps =
-    body_of Term Operand Doing terms t.ints (meanings Term Operand Doing terms t.ints t.funs) d.body args terms.replies ps
+    body_of Term Operand Doing terms t.ints (meanings Term Operand Doing terms t.ints t.funs) d.body args
+    terms.replies ps
 plan_in t args None ps = Blocks
 
 -- what a call does on terms
@@ -113,11 +125,58 @@ value_type None = ty.Sort 0
 abbrev pub piece_at : Tables → Counts → ℕ → Place → Piece
 piece_at t c n p = piece_of t (value_type (slice_get t.states p.state)) (root.Cell n) c
 
--- where new cells have got their initial terms, as many as a path may touch
-abbrev pub settled : Tables → Counts → ℕ → Telling → Telling
-settled t c n (Asks q f) = Asks q f
-settled t c n (Ends e) = Ends e
-settled t c n (Needs p f) =
-    if ltb n cell_limit
-    then settled t (counted c (piece_at t c n p).variables) (suc n) (f (piece_at t c n p).term)
-    else Needs p f
+-- what has become where new cells have got their initial terms
+pub record Settled : Type 0 where
+  -- of the cells, in the order of first touch
+  pub places : List Place
+  -- how many variables there are
+  pub counts : Counts
+  -- what was made for symbols, in order
+  pub pieces : List Piece
+  -- what is still asked
+  pub rest : Telling
+
+abbrev pub settled_at : List Place → Counts → List Piece → Telling → Settled
+settled_at qs c made s = record { places = qs; counts = c; pieces = made; rest = s }
+
+-- from the cells, variables and pieces that there are: a cell that is new comes last, with a piece of its own whose
+-- term it gets, as many cells as a path may touch
+abbrev pub settled : Tables → List Place → Counts → List Piece → Telling → Settled
+settled t qs c made (Asks q f) = settled_at qs c made (Asks q f)
+settled t qs c made (Ends e) = settled_at qs c made (Ends e)
+settled t qs c made (Needs p f) =
+    if ltb (length qs) cell_limit
+    then settled t (qs ++ p ∷ []) (counted c (piece_at t c (length qs) p).variables)
+    (made ++ piece_at t c (length qs) p ∷ []) (f (piece_at t c (length qs) p).term)
+    else settled_at qs c made (Needs p f)
+
+-- a piece for each of these new cells, in order, the first one's number being n
+abbrev pub pieces_for : Tables → Counts → ℕ → List Place → List Piece
+pieces_for t c n [] = []
+pieces_for t c n (p ∷ more) =
+    piece_at t c n p ∷ pieces_for t (counted c (piece_at t c n p).variables) (n + 1) more
+
+-- how many variables there are with these pieces
+abbrev pub counted_all : Counts → List Piece → Counts
+counted_all c [] = c
+counted_all c (p ∷ more) = counted_all (counted c p.variables) more
+
+-- a valuation gives the variables of each piece values of their types
+abbrev pub GivesAll : List Piece → Valuation → Type 0
+GivesAll [] v = Unit {0}
+GivesAll (p ∷ more) v = Gives p.from p.variables v × GivesAll more v
+
+-- cells and facts, before and after: some cells are new and come last, and the facts got a piece for each of them, in
+-- order, and nothing else
+pub record IsGrown (t : Tables) (old : List Place) (c : Counts) (before : List Piece) (new : List Place) (d : Counts)
+    (after : List Piece) : Type 0 where
+  pub cells : List Place
+  pub places : new ≡ old ++ cells
+  pub pieces : after ≡ before ++ pieces_for t c (length old) cells
+  pub variables : d ≡ counted_all c (pieces_for t c (length old) cells)
+
+-- facts, before and after: exactly those valuations of before satisfy them that give the variables of the new pieces
+-- values of their types
+abbrev pub KeepsAll : List Piece → (Valuation → Type 0) → List Piece → (Valuation → Type 0) → Type 0
+KeepsAll before had after has =
+    (made : List Piece) → after ≡ before ++ made → (v : Valuation) → has v ↔ (had v × GivesAll made v)

@@ -1,5 +1,6 @@
 -- What a run in its midst still asks.
-use Rattle.std.specs.Prelude.{◌≡◌, ◌<◌, ◌≤◌, ℕ, zero, suc, ◌+◌, ◌*◌, slice_get, Bool, true, false, List, [], ◌∷◌, ◌++◌, length, Option, Some, None}
+use Rattle.std.specs.Prelude.{◌≡◌, ◌<◌, ◌≤◌, ℕ, zero, suc, ◌+◌, ◌*◌, slice_get, Bool, true, false, List, [], ◌∷◌}
+use Rattle.std.specs.Prelude.{◌++◌, length, Option, Some, None}
 use Rattle.cm_term.specs.declared.question.Question.{Question}
 use Rattle.cm_term.specs.declared.term.Term.{Term}
 use Rattle.cm_cells.specs.declared.search.Touched.{Touched}
@@ -20,14 +21,14 @@ use Rattle.cm_exec.specs.declared.run.Use.TheVariants as goal
 use Rattle.cm_exec.specs.declared.run.Touch.{Touch}
 use Rattle.cm_exec.specs.declared.run.Phase.{Phase}
 use Rattle.cm_exec.specs.declared.run.Phase.TheVariants as phase
-use Rattle.cm_exec.specs.Tale.{Tale, Asks, Needs, Ends}
+use Rattle.cm_story.specs.Tale.{Asks, Needs, Ends}
 use Rattle.cm_exec.specs.Terms.{Plan}
 use Rattle.cm_exec.specs.declared.run.Ask.{Ask}
 use Rattle.cm_exec.specs.declared.run.Ask.TheVariants as ask
 use Rattle.cm_exec.specs.declared.decider.Decider.{Decider}
 use Rattle.cm_exec.specs.declared.decider.Reached.{Reached}
-use Rattle.cm_exec.specs.declared.decider.Reached.TheVariants as reach
-use Rattle.cm_exec.specs.Run.{Telling, Replied, Blocked, Invariant, Used, asked, added, term_in, play, invariants_of, settled}
+use Rattle.cm_exec.specs.Run.{asked, Telling, Replied, Blocked, Invariant, Used, checking, added, term_in, play}
+use Rattle.cm_exec.specs.Run.{invariants_of, settled}
 use Rattle.cm_exec.specs.Deciding.{handed_in, doing, left_in}
 use Rattle.cm_exec.specs.Deciding as deciding
 use Rattle.cm_ctx.specs.declared.piece.Piece.{Piece}
@@ -39,20 +40,21 @@ use Rattle.cm_term.specs.declared.symbol.Root.TheVariants as root
 abbrev pub Answered : Type 0
 Answered = List ℕ → Telling
 
--- a question takes the next answer, and is asked where there is none
-abbrev pub asks_on : Question → (ℕ → Answered) → Answered
-asks_on q k [] = Asks q (λ d. k d [])
-asks_on q k (a ∷ rest) = k a rest
+-- a question takes the next answer, and is asked with these cells where there is none
+abbrev pub asks_on : CellTable → Question → (ℕ → Answered) → Answered
+asks_on cs q k [] = Asks (asked q cs) (λ d. k d [])
+asks_on cs q k (a ∷ rest) = k a rest
 
 -- a touch after these answers
-abbrev pub touch_after : List Place → Place → List ℕ → (ℕ → Telling) → Telling → Telling
-touch_after qs p answers found fresh = touching Answered asks_on qs 0 p (λ n rest. found n) (λ rest. fresh) answers
+abbrev pub touch_after : CellTable → Place → List ℕ → (ℕ → Telling) → Telling → Telling
+touch_after cs p answers found fresh =
+    touching Answered (asks_on cs) cs.places 0 p (λ n rest. found n) (λ rest. fresh) answers
 
 -- where a touch has come to, by what comes with further answers
-abbrev pub Stands : Touched → Answered → (ℕ → Telling) → Telling → Type 0
-Stands (touched.Ask q) y found fresh = y [] ≡ Asks q (λ d. y (d ∷ []))
-Stands (touched.Cell n) y found fresh = y [] ≡ found n
-Stands touched.New y found fresh = y [] ≡ fresh
+abbrev pub Stands : CellTable → Touched → Answered → (ℕ → Telling) → Telling → Type 0
+Stands cs (touched.Ask q) y found fresh = y [] ≡ Asks (asked q cs) (λ d. y (d ∷ []))
+Stands cs (touched.Cell n) y found fresh = y [] ≡ found n
+Stands cs touched.New y found fresh = y [] ≡ fresh
 
 -- the code of a run's body, and of a state's invariant
 abbrev pub codes_of : Run → List (List Instr)
@@ -97,14 +99,14 @@ module _ (t : Tables) (ps : List Term) where
     -- a touch in its midst
     abbrev pub touches : Touch → List ℕ → CellTable → Telling
     touches x answers cs =
-        touch_after cs.places (place x.state x.key) answers (λ n. used x.goal n cs) (adds x cs)
+        touch_after cs (place x.state x.key) answers (λ n. used x.goal n cs) (adds x cs)
 
     abbrev pub at_phase : Phase → CellTable → Telling
     at_phase phase.Goes cs = goes (doing (codes_of r) r.decider ps) cs
     at_phase (phase.Touches x) cs = touches x x.answers cs
     at_phase (phase.Told x a) cs = touches x (x.answers ++ a ∷ []) cs
     at_phase (phase.Checks s d u) cs =
-        asked (doing (invariant_codes r s) d ps) cs (used_last u (length cs.places) cs)
+        checking (doing (invariant_codes r s) d ps) cs (used_last u (length cs.places) cs)
     at_phase (phase.Replied v) cs = Ends (Replied v cs)
     at_phase phase.Blocked cs = Ends (Blocked cs)
 
@@ -120,7 +122,7 @@ told_after (Ends e) d = Ends e
 
 -- a run has come to this, with these cells
 abbrev pub Comes : Ask → CellTable → Telling → Type 0
-Comes (ask.Question q) cs s = s ≡ Asks q (told_after s)
+Comes (ask.Question q) cs s = s ≡ Asks (asked q cs) (told_after s)
 Comes (ask.Reply v) cs s = s ≡ Ends (Replied v cs)
 Comes ask.Blocked cs s = s ≡ Ends (Blocked cs)
 Comes ask.Cells cs s = (cell_limit ≤ length cs.places) × (p : Place) × (f : Term → Telling) × (s ≡ Needs p f)
@@ -135,7 +137,8 @@ IsRoomy pieces n = (i : ℕ) → n ≤ i → IsNew pieces (root.Cell i)
 
 -- something was asked with these cells, and no outcome is there
 abbrev pub IsAskedWith : Phase → Decider → CellTable → Type 0
-IsAskedWith (phase.Touches x) d cs = (q : Question) × (touched.Ask q ≡ next_of cs.places (place x.state x.key) x.answers)
+IsAskedWith (phase.Touches x) d cs =
+    (q : Question) × (touched.Ask q ≡ next_of cs.places (place x.state x.key) x.answers)
 IsAskedWith phase.Goes d cs = deciding.IsAsking d.waits
 IsAskedWith (phase.Told x a) d cs = ⊥
 IsAskedWith (phase.Checks s c u) d cs = deciding.IsAsking c.waits
@@ -177,9 +180,9 @@ invariant_or_none (Some i) = i
 invariant_or_none None = None
 
 -- a run is at what it was at, where new cells have got their terms
-abbrev pub Turned : Tables → Run → CellTable → Counts → Run → CellTable → Counts → List Piece → Type 0
-Turned t r cs c s ds d pieces = (ps : List Term) → IsCodeOf t r.code → Extends (payloads_of pieces) ps →
-    settled t c (length cs.places) (telling t ps r cs) ≡ settled t d (length ds.places) (telling t ps s ds)
+abbrev pub Turned : Tables → Run → CellTable → Counts → List Piece → Run → CellTable → Counts → List Piece → Type 0
+Turned t r cs c before s ds d after = (ps : List Term) → IsCodeOf t r.code → Extends (payloads_of after) ps →
+    settled t cs.places c before (telling t ps r cs) ≡ settled t ds.places d after (telling t ps s ds)
 
 -- where the touch that a run is in has come to
 abbrev pub IsTouch : Touched → Phase → CellTable → Type 0
@@ -206,7 +209,7 @@ IsChecking r e phase.Blocked = ⊥
 -- what is asked then
 abbrev pub checks_as : Tables → List Term → Run → Reached → Phase → CellTable → Telling
 checks_as t ps r e (phase.Checks s d u) cs =
-    asked (deciding.reached (invariant_codes r s) e d ps) cs (used_last t ps r u (length cs.places) cs)
+    checking (deciding.reached (invariant_codes r s) e d ps) cs (used_last t ps r u (length cs.places) cs)
 checks_as t ps r e phase.Goes cs = Ends (Blocked cs)
 checks_as t ps r e (phase.Touches x) cs = Ends (Blocked cs)
 checks_as t ps r e (phase.Told x a) cs = Ends (Blocked cs)

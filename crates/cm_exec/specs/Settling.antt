@@ -1,5 +1,5 @@
 -- The comparison of the two orders' terms: its inspections, and the equalities that it needs.
-use Rattle.std.specs.Prelude.{ℕ, Bool, true, false, List, [], ◌∷◌, ◌++◌}
+use Rattle.std.specs.Prelude.{ℕ, true, false, List, [], ◌∷◌, ◌++◌}
 use Rattle.cm_term.specs.declared.question.Question.{Question}
 use Rattle.cm_term.specs.declared.question.Equal.{Equal}
 use Rattle.cm_term.specs.declared.term.Term.{Term}

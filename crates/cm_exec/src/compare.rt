@@ -1,11 +1,13 @@
 //! The last comparison of a pair of calls: its inspections, and the equalities that it needs.
 
-ghost use Rattle.std.specs.Prelude.{◌≡◌, ◌<◌, ◌≤◌, ◌+◌, ◌-◌, List, [], ◌∷◌, IfOk, OnOk, IfSome, MatchOption, length, drop};
+ghost use Rattle.std.specs.Prelude.{◌≡◌, ◌<◌, ◌≤◌, ◌+◌, ◌-◌, List, [], ◌∷◌, IfOk, OnOk, IfSome, MatchOption, length};
+ghost use Rattle.std.specs.Prelude.{drop};
 ghost use Rattle.cm_term.specs.declared.term.Term.{Term};
 ghost use Rattle.cm_ctx.specs.Contexts.{payloads_of};
 ghost use Rattle.cm_exec.specs.Settling.{settling_of, settling_after};
 ghost use Rattle.cm_exec.specs.Comparing.{Extends, IsNoMeeting};
-ghost use Rattle.cm_exec.specs.Pairing.{settling, Comes, ComesIf, IsAsking, Awaits, AwaitsIf, IsWithin, LeftIf, left_in};
+ghost use Rattle.cm_exec.specs.Pairing.{settling, Comes, ComesIf, IsAsking, Awaits, AwaitsIf, IsWithin, LeftIf};
+ghost use Rattle.cm_exec.specs.Pairing.{left_in};
 ghost use Rattle.cm_exec.specs.declared.compare.Progress.TheVariants as progress;
 
 use crate::comparison::{Comparison, Met, Sides};

@@ -1,6 +1,7 @@
 //! The comparison of two terms, as data that stops in its midst and goes on.
 
-ghost use Rattle.std.specs.Prelude.{◌≡◌, ◌<◌, ◌+◌, ◌∷◌, ◌++◌, [], ◌↔◌, ℕ, true, List, Option, IfOk, OnOk, Some, None, IsTrue};
+ghost use Rattle.std.specs.Prelude.{◌≡◌, ◌<◌, ◌+◌, ◌∷◌, ◌++◌, [], ◌↔◌, ℕ, true, List, Option, IfOk, OnOk, Some, None};
+ghost use Rattle.std.specs.Prelude.{IsTrue};
 ghost use Rattle.std.specs.Prelude.{reverse, slice_get};
 ghost use Rattle.std.specs.Option.{option_copied};
 ghost use Rattle.cm_term.specs.declared.term.Term.{Term, out-Term};
@@ -9,7 +10,8 @@ ghost use Rattle.cm_exec.specs.declared.comparison.Fields.{Fields};
 ghost use Rattle.cm_term.specs.declared.term.Term.TheVariants as term;
 ghost use Rattle.cm_exec.specs.Asking.{opt_of, payload_of, opened_asked, askers_below, asks_below, asks_of};
 ghost use Rattle.cm_exec.specs.Terms.{said_equal};
-ghost use Rattle.cm_exec.specs.Comparing.{MeetsDown, IsNoMeeting, Extends, Heads, IsWaiting, Awaits, AwaitsAt, GoesDown, GoesDeeper, LandsDown, IsBelow};
+ghost use Rattle.cm_exec.specs.Comparing.{MeetsDown, IsNoMeeting, Extends, Heads, IsWaiting, Awaits, AwaitsAt};
+ghost use Rattle.cm_exec.specs.Comparing.{GoesDown, GoesDeeper, LandsDown, IsBelow};
 ghost use Rattle.cm_exec.specs.Comparing.{answered, asker_of, askers_of, looks, opens, waiting_for};
 ghost use Rattle.cm_exec.specs.Comparing.{told_as, after, at, next_of, looked, landed_at, stepped, staged, asking};
 ghost use Rattle.cm_exec.specs.Comparing.{weight, frame_weight, frames_weight, next_weight};
@@ -17,6 +19,7 @@ ghost use Rattle.cm_term.specs.declared.question.Equal.{Equal};
 ghost use Rattle.cm_exec.specs.Settling.{Settling, needing};
 ghost use Rattle.cm_ctx.specs.Contexts.{payloads_of};
 
+use crate::operand::field;
 use cm_ctx::Facts;
 use cm_model::{List, NoMemory, SortVar};
 use cm_term::{Equal, Num, Opt, OptVar, Parts, Question, Tag, Term};
@@ -295,8 +298,8 @@ fn next_field(frames: &mut List<Fields>, fields: Fields) -> Result<Step, NoMemor
     ensures left { IfOk result (λ r.
         GoesDown (frame_weight fields + frames_weight (reverse frames.old)) r frames.new) }
 {
-    let left = nth(&fields.left, fields.at)?;
-    let right = nth(&fields.right, fields.at)?;
+    let left = field(&fields.left, fields.at)?;
+    let right = field(&fields.right, fields.at)?;
     match (left, right) {
         (Some(left), Some(right)) => {
             let below = fields.below;
@@ -307,19 +310,6 @@ fn next_field(frames: &mut List<Fields>, fields: Fields) -> Result<Step, NoMemor
         (None, None) => Ok(Step::Goes(None)),
         (None, Some(_)) => Ok(Step::Lands(Landed::Stuck)),
         (Some(_), None) => Ok(Step::Lands(Landed::Stuck)),
-    }
-}
-
-// A field of a record, if it is there.
-fn nth(parts: &Parts, at: usize) -> Result<Option<Term>, NoMemory>
-    ensures { IfOk result (λ r. r ≡ slice_get parts.now at) }
-{
-    match parts.get().as_slice().get(at) {
-        Some(t) => {
-            let t = t.share()?;
-            Ok(Some(t))
-        }
-        None => Ok(None),
     }
 }
 

@@ -15,7 +15,8 @@ ghost use Rattle.cm_exec.specs.Terms.{Doing, terms, question_of};
 ghost use Rattle.cm_exec.specs.Comparing.{Extends};
 ghost use Rattle.cm_exec.specs.declared.decider.Waits.TheVariants as waits;
 ghost use Rattle.cm_exec.specs.Deciding.{after, decides, awaited, awaited_if, goes_if, doing, turned, reached, left_in};
-ghost use Rattle.cm_exec.specs.Deciding.{AsksAt, TurnAsks, GoesDown, ComesDown, IsAsking, Awaits, TurnAwaits, handed_in, goes_on};
+ghost use Rattle.cm_exec.specs.Deciding.{AsksAt, TurnAsks, GoesDown, ComesDown, IsAsking, Awaits, TurnAwaits};
+ghost use Rattle.cm_exec.specs.Deciding.{handed_in, goes_on};
 ghost use Rattle.cm_exec.specs.Deciding.{numbers_compared, presence_told, range_told, IsMet};
 
 use crate::comparison::{Comparison, Met, Sides, number_in, opt, right_payload};

@@ -55,11 +55,11 @@ fn sum(a: Num, by: i64) -> Result<Num, NoMemory>
     }
 }
 
-// One of these fields.
-fn field(fields: &Parts, i: u16) -> Result<Option<Term>, NoMemory>
-    ensures { IfOk result (λ r. r ≡ slice_get fields.now i) }
+/// A field of a record, if it is there.
+pub fn field(fields: &Parts, at: usize) -> Result<Option<Term>, NoMemory>
+    ensures there { IfOk result (λ r. r ≡ slice_get fields.now at) }
 {
-    match fields.get().as_slice().get(usize::from(i)) {
+    match fields.get().as_slice().get(at) {
         Some(t) => {
             let t = t.share()?;
             Ok(Some(t))
@@ -116,7 +116,7 @@ impl cm_code::Operand for Operand {
 
     fn field(_alloc: Global, of: Term, i: u16) -> Result<Option<Term>, NoMemory> {
         match of {
-            Term::Rec(fields) => field(&fields, i),
+            Term::Rec(fields) => field(&fields, usize::from(i)),
             _ => Ok(None),
         }
     }

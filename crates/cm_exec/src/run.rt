@@ -1,6 +1,7 @@
 //! Runs of calls on terms: what is asked next, with the cells so far.
 
-ghost use Rattle.std.specs.Prelude.{◌≡◌, ◌<◌, ◌≤◌, ◌+◌, ◌*◌, ◌-◌, ◌++◌, ◌∷◌, [], ℕ, List, Some, None, IfOk, OnOk, length};
+ghost use Rattle.std.specs.Prelude.{◌≡◌, ◌<◌, ◌≤◌, ◌+◌, ◌*◌, ◌-◌, ◌++◌, ◌∷◌, [], ℕ, List, Some, None, IfOk, OnOk};
+ghost use Rattle.std.specs.Prelude.{length};
 ghost use Rattle.std.specs.Prelude.{slice_get, ◌↔◌, IsTrue};
 ghost use Rattle.std.specs.Option.{option_copied};
 ghost use Rattle.cm_model.specs.Limits.{cell_limit};
@@ -12,7 +13,7 @@ ghost use Rattle.cm_cells.specs.CellTable.{place, with_cell};
 ghost use Rattle.cm_cells.specs.Touching.{next_of};
 ghost use Rattle.cm_cells.specs.declared.search.Touched.TheVariants as touched;
 ghost use Rattle.cm_ctx.specs.Contexts.{payloads_of};
-ghost use Rattle.cm_exec.specs.Run.{settled, tale_of};
+ghost use Rattle.cm_exec.specs.Run.{settled, IsGrown, KeepsAll};
 ghost use Rattle.cm_exec.specs.Comparing.{Extends};
 ghost use Rattle.cm_exec.specs.declared.run.Phase.TheVariants as phase;
 ghost use Rattle.cm_cells.specs.CellTable.{CellTable};
@@ -24,7 +25,8 @@ ghost use Rattle.cm_exec.specs.Running.{IsAskedWith, told_after, codes_of, used_
 ghost use Rattle.cm_exec.specs.declared.run.Touch.{Touch};
 ghost use Rattle.cm_exec.specs.declared.run.Use.{Use};
 ghost use Rattle.cm_exec.specs.declared.decider.Decider.{Decider};
-ghost use Rattle.cm_exec.specs.Running.{telling, used, adds, decider_left, left_of, if_there, is_there, IsRoomy, IsThere};
+ghost use Rattle.cm_exec.specs.Running.{telling, used, adds, decider_left, left_of, if_there, is_there, IsRoomy};
+ghost use Rattle.cm_exec.specs.Running.{IsThere};
 ghost use Rattle.cm_exec.specs.Running.{invariant_or_none, Turned, IsTouch, ComesIf, AwaitsIf, LeftIf, Comes};
 ghost use Rattle.cm_exec.specs.Running as running;
 
@@ -194,9 +196,14 @@ impl Run {
         requires room { length cells.old.places < cell_limit }
         requires new { IsRoomy (F.pieces facts.old) (length cells.old.places) }
         ensures added { OnOk result ((ps : List Term) → IsCodeOf model.now self.old.code →
-            settled model.now (F.counts facts.old) (length cells.old.places)
+            settled model.now cells.old.places (F.counts facts.old) (F.pieces facts.old)
             (adds model.now ps self.old touch cells.old)
-            ≡ settled model.now (F.counts facts.new) (length cells.new.places) (telling model.now ps self.new cells.new)) }
+            ≡ settled model.now cells.new.places (F.counts facts.new) (F.pieces facts.new)
+            (telling model.now ps self.new cells.new)) }
+        ensures grown { OnOk result (IsGrown model.now cells.old.places (F.counts facts.old) (F.pieces facts.old)
+            cells.new.places (F.counts facts.new) (F.pieces facts.new)) }
+        ensures satisfied { OnOk result (KeepsAll (F.pieces facts.old) (F.satisfied facts.old)
+            (F.pieces facts.new) (F.satisfied facts.new)) }
         ensures pieces { OnOk result (Extends (payloads_of (F.pieces facts.old)) (payloads_of (F.pieces facts.new))) }
         ensures new { OnOk result (IsRoomy (F.pieces facts.new) (length cells.new.places)) }
         ensures left { OnOk result (left_of self.new < 4 * decider_left self.old + 3) }
@@ -258,10 +265,15 @@ impl Run {
         requires new { IsRoomy (F.pieces facts.old) (length cells.old.places) }
         requires touched { IsTouch touched self.old.phase cells.old }
         ensures turned { IfOk result (λ a. Turned model.now self.old cells.old (F.counts facts.old)
-            self.new cells.new (F.counts facts.new) (F.pieces facts.new)) }
+            (F.pieces facts.old) self.new cells.new (F.counts facts.new) (F.pieces facts.new)) }
         ensures comes { IfOk result (λ a. (ps : List Term) → IsCodeOf model.now self.old.code →
             ComesIf a cells.new (telling model.now ps self.new cells.new)) }
-        ensures pieces { IfOk result (λ a. Extends (payloads_of (F.pieces facts.old)) (payloads_of (F.pieces facts.new))) }
+        ensures grown { IfOk result (λ a. IsGrown model.now cells.old.places (F.counts facts.old)
+            (F.pieces facts.old) cells.new.places (F.counts facts.new) (F.pieces facts.new)) }
+        ensures satisfied { IfOk result (λ a. KeepsAll (F.pieces facts.old) (F.satisfied facts.old)
+            (F.pieces facts.new) (F.satisfied facts.new)) }
+        ensures pieces { IfOk result (λ a. Extends (payloads_of (F.pieces facts.old))
+            (payloads_of (F.pieces facts.new))) }
         ensures new { IfOk result (λ a. IsRoomy (F.pieces facts.new) (length cells.new.places)) }
         ensures awaits { IfOk result (λ a. AwaitsIf a self.new cells.new) }
         ensures left { IfOk result (λ a. LeftIf a (left_of self.old) (left_of self.new)) }
@@ -294,12 +306,18 @@ impl Run {
         requires new { IsRoomy (F.pieces facts.old) (length cells.old.places) }
         requires is_new { touched.New ≡ next_of cells.old.places (place touch.state touch.key) touch.answers }
         ensures turned { IfOk result (λ a. (ps : List Term) → IsCodeOf model.now self.old.code →
-            settled model.now (F.counts facts.old) (length cells.old.places)
+            settled model.now cells.old.places (F.counts facts.old) (F.pieces facts.old)
             (adds model.now ps self.old touch cells.old)
-            ≡ settled model.now (F.counts facts.new) (length cells.new.places)
+            ≡ settled model.now cells.new.places (F.counts facts.new) (F.pieces facts.new)
             (telling model.now ps self.new cells.new)) }
-        ensures comes { IfOk result (λ a. (ps : List Term) → ComesIf a cells.new (telling model.now ps self.new cells.new)) }
-        ensures pieces { IfOk result (λ a. Extends (payloads_of (F.pieces facts.old)) (payloads_of (F.pieces facts.new))) }
+        ensures comes { IfOk result (λ a. (ps : List Term) →
+            ComesIf a cells.new (telling model.now ps self.new cells.new)) }
+        ensures grown { IfOk result (λ a. IsGrown model.now cells.old.places (F.counts facts.old)
+            (F.pieces facts.old) cells.new.places (F.counts facts.new) (F.pieces facts.new)) }
+        ensures satisfied { IfOk result (λ a. KeepsAll (F.pieces facts.old) (F.satisfied facts.old)
+            (F.pieces facts.new) (F.satisfied facts.new)) }
+        ensures pieces { IfOk result (λ a. Extends (payloads_of (F.pieces facts.old))
+            (payloads_of (F.pieces facts.new))) }
         ensures new { IfOk result (λ a. IsRoomy (F.pieces facts.new) (length cells.new.places)) }
         ensures awaits { IfOk result (λ a. AwaitsIf a self.new cells.new) }
         ensures left { IfOk result (λ a. LeftIf a (4 * decider_left self.old + 3) (left_of self.new)) }
@@ -358,7 +376,8 @@ impl Run {
         requires waits { Awaits reached self.old.decider }
         requires asks { AsksAt (codes_of self.old) reached self.old.decider }
         ensures turned { (ps : List Term) (cells : CellTable) →
-            play (invariants_of model.now ps) self.old.order (reached_as (codes_of self.old) reached self.old.decider ps)
+            play (invariants_of model.now ps) self.old.order
+            (reached_as (codes_of self.old) reached self.old.decider ps)
             cells ≡ telling model.now ps self.new cells }
         ensures comes { (ps : List Term) (cells : CellTable) →
             ComesIf result cells (telling model.now ps self.new cells) }
@@ -490,10 +509,15 @@ impl Run {
     ) -> Result<Option<Ask>, NoMemory>
         requires new { IsRoomy (F.pieces facts.old) (length cells.old.places) }
         ensures turned { IfOk result (λ a. Turned model.now self.old cells.old (F.counts facts.old)
-            self.new cells.new (F.counts facts.new) (F.pieces facts.new)) }
+            (F.pieces facts.old) self.new cells.new (F.counts facts.new) (F.pieces facts.new)) }
         ensures comes { IfOk result (λ a. (ps : List Term) → IsCodeOf model.now self.old.code →
             ComesIf a cells.new (telling model.now ps self.new cells.new)) }
-        ensures pieces { IfOk result (λ a. Extends (payloads_of (F.pieces facts.old)) (payloads_of (F.pieces facts.new))) }
+        ensures grown { IfOk result (λ a. IsGrown model.now cells.old.places (F.counts facts.old)
+            (F.pieces facts.old) cells.new.places (F.counts facts.new) (F.pieces facts.new)) }
+        ensures satisfied { IfOk result (λ a. KeepsAll (F.pieces facts.old) (F.satisfied facts.old)
+            (F.pieces facts.new) (F.satisfied facts.new)) }
+        ensures pieces { IfOk result (λ a. Extends (payloads_of (F.pieces facts.old))
+            (payloads_of (F.pieces facts.new))) }
         ensures new { IfOk result (λ a. IsRoomy (F.pieces facts.new) (length cells.new.places)) }
         ensures awaits { IfOk result (λ a. AwaitsIf a self.new cells.new) }
         ensures left { IfOk result (λ a. LeftIf a (left_of self.old) (left_of self.new)) }
@@ -568,10 +592,15 @@ impl Run {
     ) -> Result<Ask, NoMemory>
         requires new { IsRoomy (F.pieces facts.old) (length cells.old.places) }
         ensures same { IfOk result (λ a. Turned model.now self.old cells.old (F.counts facts.old)
-            self.new cells.new (F.counts facts.new) (F.pieces facts.new)) }
+            (F.pieces facts.old) self.new cells.new (F.counts facts.new) (F.pieces facts.new)) }
         ensures comes { IfOk result (λ a. (ps : List Term) → IsCodeOf model.now self.old.code →
             Comes a cells.new (telling model.now ps self.new cells.new)) }
-        ensures pieces { IfOk result (λ a. Extends (payloads_of (F.pieces facts.old)) (payloads_of (F.pieces facts.new))) }
+        ensures grown { IfOk result (λ a. IsGrown model.now cells.old.places (F.counts facts.old)
+            (F.pieces facts.old) cells.new.places (F.counts facts.new) (F.pieces facts.new)) }
+        ensures satisfied { IfOk result (λ a. KeepsAll (F.pieces facts.old) (F.satisfied facts.old)
+            (F.pieces facts.new) (F.satisfied facts.new)) }
+        ensures pieces { IfOk result (λ a. Extends (payloads_of (F.pieces facts.old))
+            (payloads_of (F.pieces facts.new))) }
         ensures new { IfOk result (λ a. IsRoomy (F.pieces facts.new) (length cells.new.places)) }
         ensures awaits { IfOk result (λ a. running.Awaits a self.new cells.new) }
         ensures code { IfOk result (λ a. self.new.code ≡ self.old.code) }

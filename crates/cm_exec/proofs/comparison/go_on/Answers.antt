@@ -1,4 +1,4 @@
-use Rattle.std.proofs.Common.{◌≡◌, ◌∙◌, sym, ap}
+use Rattle.std.proofs.Common.{◌∙◌, sym, ap}
 use Rattle.cm_exec.specs.Comparing.{staged, at}
 use Rattle.cm_exec.proofs.Asking.{answered_at}
 use Rattle.cm_exec.proofs.comparison.go_on.Goals as goal

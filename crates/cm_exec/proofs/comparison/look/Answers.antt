@@ -1,4 +1,4 @@
-use Rattle.std.proofs.Common.{◌≡◌, ◌∙◌}
+use Rattle.std.proofs.Common.{◌∙◌}
 use Rattle.cm_term.specs.declared.term.Term.TheVariants as term
 use Rattle.cm_exec.proofs.Asking.{elsewhere}
 use Rattle.cm_exec.proofs.comparison.look.Goals as goal

@@ -1,4 +1,4 @@
-use Rattle.std.proofs.Common.{◌≡◌, ◌∙◌, sym, Some}
+use Rattle.std.proofs.Common.{Some}
 use Rattle.cm_exec.proofs.Asking.{option_looked}
 use Rattle.cm_exec.proofs.comparison.look_at_option.Goals as goal
 

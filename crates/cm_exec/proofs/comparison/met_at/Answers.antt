@@ -1,6 +1,6 @@
-use Rattle.std.proofs.Common.{rules, ◌≡◌, ap, reverse}
+use Rattle.std.proofs.Common.{rules, reverse}
 use Rattle.cm_exec.specs.Asking.{Says, bound}
-use Rattle.cm_exec.specs.Comparing.{after, landed_at}
+use Rattle.cm_exec.specs.Comparing.{after}
 use Rattle.cm_exec.proofs.comparison.met_at.Goals as goal
 
 pub returns-in-Waits-Equality-clause-heads : goal.returns-in-Waits-Equality-clause-heads

@@ -1,4 +1,4 @@
-use Rattle.std.proofs.Common.{◌≡◌, refl}
+use Rattle.std.proofs.Common.{refl}
 use Rattle.cm_exec.proofs.Payloads.{payload_asked}
 use Rattle.cm_exec.proofs.comparison.payload_below.Goals as goal
 

@@ -1,4 +1,4 @@
-use Rattle.std.proofs.Common.{◌≡◌, ◌∙◌, ap}
+use Rattle.std.proofs.Common.{◌∙◌, ap}
 use Rattle.cm_exec.specs.Comparing.{looked}
 use Rattle.cm_exec.proofs.comparison.step_into.Goals as goal
 

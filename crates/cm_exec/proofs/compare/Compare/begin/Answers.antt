@@ -1,5 +1,4 @@
-use Rattle.std.proofs.Common.{rules, ◌≡◌, ◌+◌, List, drop, slice_get, Some, None, sym, ap, ◌∙◌}
-use Rattle.cm_term.specs.declared.question.Equal.{Equal}
+use Rattle.std.proofs.Common.{rules, ◌≡◌, drop, slice_get, Some, None, sym, ap, ◌∙◌}
 use Rattle.cm_exec.specs.Settling.{Needs, needing, settling_from}
 use Rattle.cm_exec.specs.Comparing.{asking}
 use Rattle.cm_exec.specs.Pairing.{at_progress, settling}

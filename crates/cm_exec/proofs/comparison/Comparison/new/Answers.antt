@@ -1,4 +1,4 @@
-use Rattle.std.proofs.Common.{◌≡◌, ◌∙◌, ap, reverse}
+use Rattle.std.proofs.Common.{◌∙◌, ap, reverse}
 use Rattle.cm_exec.specs.Asking.{bound, asks_of}
 use Rattle.cm_exec.specs.Comparing.{after}
 use Rattle.cm_exec.proofs.Asking.{said}

@@ -1,4 +1,4 @@
-use Rattle.std.proofs.Common.{◌≡◌, ◌*◌, ◌+◌, refl, subst, Some}
+use Rattle.std.proofs.Common.{refl, subst, Some}
 use Rattle.cm_term.specs.declared.term.Term.{Term}
 use Rattle.cm_code.specs.declared.event.Event.{Event}
 use Rattle.cm_code.specs.declared.event.Event.TheVariants as event
@@ -24,7 +24,8 @@ returns-in-Compares-clause-left c =
     fell (with_body c.args.funs.now c.args.body.now)
     (steps_left (with_body c.args.funs.now c.args.body.now) c.args.self.now.machine)
     (steps_left (with_body c.args.funs.now c.args.body.now) c.go.new.m) c.go.new.m
-    (event.Compares c.in-Compares.x c.in-Compares.y c.in-Compares.then) c.wait_for-in-Compares.result c.wait_for-in-Compares.new.self
+    (event.Compares c.in-Compares.x c.in-Compares.y c.in-Compares.then) c.wait_for-in-Compares.result
+    c.wait_for-in-Compares.new.self
     (subst (λ (e : Event Term Operand). Falls (with_body c.args.funs.now c.args.body.now)
     (steps_left (with_body c.args.funs.now c.args.body.now) c.args.self.now.machine) (Some e) c.go.new.m)
     c.in-Compares.is c.in_ok-o.ensures.left)
@@ -35,7 +36,8 @@ returns-in-Orders-clause-left c =
     fell (with_body c.args.funs.now c.args.body.now)
     (steps_left (with_body c.args.funs.now c.args.body.now) c.args.self.now.machine)
     (steps_left (with_body c.args.funs.now c.args.body.now) c.go.new.m) c.go.new.m
-    (event.Orders c.in-Orders.x c.in-Orders.y c.in-Orders.ranked) c.wait_for-in-Orders.result c.wait_for-in-Orders.new.self
+    (event.Orders c.in-Orders.x c.in-Orders.y c.in-Orders.ranked) c.wait_for-in-Orders.result
+    c.wait_for-in-Orders.new.self
     (subst (λ (e : Event Term Operand). Falls (with_body c.args.funs.now c.args.body.now)
     (steps_left (with_body c.args.funs.now c.args.body.now) c.args.self.now.machine) (Some e) c.go.new.m)
     c.in-Orders.is c.in_ok-o.ensures.left)

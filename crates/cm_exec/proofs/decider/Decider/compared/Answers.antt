@@ -1,4 +1,4 @@
-use Rattle.std.proofs.Common.{◌≡◌, ◌*◌, ◌+◌, arith}
+use Rattle.std.proofs.Common.{◌*◌, ◌+◌, arith}
 use Rattle.cm_code.specs.Steps.{steps_left}
 use Rattle.cm_exec.proofs.Playing.{goes_further}
 use Rattle.cm_exec.proofs.decider.Decider.compared.Goals as goal

@@ -1,4 +1,4 @@
-use Rattle.std.proofs.Common.{◌≡◌, ◌*◌, ◌+◌, ap, arith}
+use Rattle.std.proofs.Common.{◌*◌, ◌+◌, ap, arith}
 use Rattle.cm_code.specs.Machine.{with_body}
 use Rattle.cm_code.specs.Steps.{steps_left}
 use Rattle.cm_exec.specs.Deciding.{left_in, waits_left}

@@ -1,9 +1,13 @@
-use Rattle.std.proofs.Common.{◌≡◌, ◌∙◌, ◌∷◌, [], length, ap}
+use Rattle.std.proofs.Common.{◌∙◌, ◌∷◌, [], length, ap}
 use Rattle.std.proofs.lemmas.List.{length-append}
 use Rattle.cm_cells.specs.CellTable.{CellTable, place}
 use Rattle.cm_term.specs.declared.symbol.Root.TheVariants as root
 use Rattle.cm_exec.proofs.Going.{payloads_more, roomy_more}
+use Rattle.cm_exec.proofs.Growing.{keeps_one}
 use Rattle.cm_exec.proofs.run.Run.add_cell.Goals as goal
+
+pub returns-clause-satisfied : goal.returns-clause-satisfied
+returns-clause-satisfied g c = keeps_one _ _ _ _ _ c.in_ok-t.ensures.pieces c.in_ok-t.ensures.satisfied
 
 pub returns-clause-pieces : goal.returns-clause-pieces
 returns-clause-pieces g c = payloads_more _ _ _ c.in_ok-t.ensures.pieces

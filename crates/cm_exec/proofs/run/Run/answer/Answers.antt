@@ -1,4 +1,4 @@
-use Rattle.std.proofs.Common.{◌≡◌, ◌∙◌, sym, ap, subst}
+use Rattle.std.proofs.Common.{◌∙◌, sym, ap, subst}
 use Rattle.cm_exec.specs.Running.{telling, at_phase, told_after, IsAskedWith}
 use Rattle.cm_exec.proofs.Going.{touch_told}
 use Rattle.cm_exec.proofs.run.Run.answer.Goals as goal

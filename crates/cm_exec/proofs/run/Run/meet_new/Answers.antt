@@ -1,5 +1,4 @@
-use Rattle.std.proofs.Common.{rules, ◌≡◌, ◌∙◌, length, slice_get, sym, ap, arith}
-use Rattle.cm_cells.specs.CellTable.{place}
+use Rattle.std.proofs.Common.{rules, ◌∙◌, slice_get, sym, ap, arith}
 use Rattle.cm_exec.specs.Run.{settled}
 use Rattle.cm_exec.specs.Running.{telling, IsThere}
 use Rattle.cm_exec.proofs.Going.{misses_at, adds_needs}
@@ -7,7 +6,8 @@ use Rattle.cm_exec.proofs.run.Run.meet_new.Goals as goal
 
 pub returns-then-from-ge-CELLS-clause-turned : goal.returns-then-from-ge-CELLS-clause-turned
 returns-then-from-ge-CELLS-clause-turned g c = λ ps is.
-    ap (settled c.args.model.now (g.F.Facts.counts c.args.facts.now) (length c.args.cells.now.places))
+    ap (settled c.args.model.now c.args.cells.now.places (g.F.Facts.counts c.args.facts.now)
+    (g.F.Facts.pieces c.args.facts.now))
     (sym (misses_at c.args.model.now ps c.args.self.now c.args.cells.now c.args.touch c.requires.is_new)
     ∙ sym (ap (λ r. telling c.args.model.now ps r c.args.cells.now) c.set-then-from-ge-CELLS.ensures))
 

@@ -1,4 +1,4 @@
-use Rattle.std.proofs.Common.{◌≡◌, ◌∙◌, length, sym, ap, subst}
+use Rattle.std.proofs.Common.{◌∙◌, length, sym, ap, subst}
 use Rattle.cm_eval.specs.Compiled.{IsCodeOf}
 use Rattle.cm_exec.specs.declared.run.Run.{Run}
 use Rattle.cm_exec.specs.Run.{settled}
@@ -19,13 +19,15 @@ returns-in-Ask-clause-comes g c = λ ps is.
 
 pub returns-in_ok-use_cell-in-Cell-clause-turned : goal.returns-in_ok-use_cell-in-Cell-clause-turned
 returns-in_ok-use_cell-in-Cell-clause-turned g c = λ ps is more.
-    ap (settled c.args.model.now (g.F.Facts.counts c.args.facts.now) (length c.args.cells.now.places))
+    ap (settled c.args.model.now c.args.cells.now.places (g.F.Facts.counts c.args.facts.now)
+    (g.F.Facts.pieces c.args.facts.now))
     (touch_finds c.args.model.now ps c.args.self.now c.args.cells.now c.take_touch-touch.result c.args.touched
     c.in-Cell.cell c.requires.touched c.take_touch-touch.ensures.touch c.in-Cell.is
     ∙ sym (ap (λ r. used c.args.model.now ps r c.take_touch-touch.result.goal c.in-Cell.cell c.args.cells.now)
     c.take_touch-touch.ensures.rest)
     ∙ c.in_ok-use_cell-in-Cell.ensures.used c.args.model.now ps)
-    ∙ sym (ap (λ l. settled c.args.model.now (g.F.Facts.counts c.args.facts.now) (length l)
+    ∙ sym (ap (λ l. settled c.args.model.now l (g.F.Facts.counts c.args.facts.now)
+    (g.F.Facts.pieces c.args.facts.now)
     (telling c.args.model.now ps c.use_cell.new.self c.use_cell.new.cells)) c.in_ok-use_cell-in-Cell.ensures.places)
 
 pub returns-in_ok-use_cell-in-Cell-clause-new : goal.returns-in_ok-use_cell-in-Cell-clause-new
@@ -35,7 +37,8 @@ returns-in_ok-use_cell-in-Cell-clause-new g c =
 
 pub returns-in_ok-a-in-New-clause-turned : goal.returns-in_ok-a-in-New-clause-turned
 returns-in_ok-a-in-New-clause-turned g c = λ ps is more.
-    ap (settled c.args.model.now (g.F.Facts.counts c.args.facts.now) (length c.args.cells.now.places))
+    ap (settled c.args.model.now c.args.cells.now.places (g.F.Facts.counts c.args.facts.now)
+    (g.F.Facts.pieces c.args.facts.now))
     (touch_misses c.args.model.now ps c.args.self.now c.args.cells.now c.take_touch-touch-in-New.result c.args.touched
     c.requires.touched c.take_touch-touch-in-New.ensures.touch c.in-New.is
     ∙ sym (ap (λ r. adds c.args.model.now ps r c.take_touch-touch-in-New.result c.args.cells.now)

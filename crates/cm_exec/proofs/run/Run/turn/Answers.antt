@@ -1,4 +1,4 @@
-use Rattle.std.proofs.Common.{◌≡◌, length, ap}
+use Rattle.std.proofs.Common.{length, ap}
 use Rattle.cm_exec.proofs.Going.{roomy_still}
 use Rattle.cm_exec.proofs.run.Run.turn.Goals as goal
 
