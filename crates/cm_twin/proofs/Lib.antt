@@ -1,0 +1,11 @@
+pub mod Renamed
+pub mod Alike
+pub mod Scripts
+pub mod Doings
+pub mod Stories
+pub mod Twins
+pub mod Everywhere
+pub mod Undone
+pub mod Own
+pub mod Shapes
+pub mod Numbers

@@ -1,0 +1,4 @@
+pub mod Names
+pub mod Twins
+pub mod Own
+pub mod Numbered
