@@ -2,6 +2,7 @@ use Rattle.std.proofs.Common.{rules, ◌∙◌, slice_get, sym, ap, arith}
 use Rattle.cm_exec.specs.Run.{settled}
 use Rattle.cm_exec.specs.Running.{telling, IsThere}
 use Rattle.cm_exec.proofs.Going.{misses_at, adds_needs}
+use Rattle.cm_exec.proofs.Growing.{keeps_none}
 use Rattle.cm_exec.proofs.run.Run.meet_new.Goals as goal
 
 pub returns-then-from-ge-CELLS-clause-turned : goal.returns-then-from-ge-CELLS-clause-turned
@@ -21,3 +22,9 @@ returns-then-from-ge-CELLS-clause-comes g c = λ ps.
       ap (λ r. telling c.args.model.now ps r c.args.cells.now) c.set-then-from-ge-CELLS.ensures
           ∙ misses_at c.args.model.now ps c.args.self.now c.args.cells.now c.args.touch c.requires.is_new ∙ needs.2,
     )
+
+pub returns-then-not-is_declared-clause-satisfied : goal.returns-then-not-is_declared-clause-satisfied
+returns-then-not-is_declared-clause-satisfied g c = keeps_none _ _
+
+pub returns-then-from-ge-CELLS-clause-satisfied : goal.returns-then-from-ge-CELLS-clause-satisfied
+returns-then-from-ge-CELLS-clause-satisfied g c = keeps_none _ _

@@ -4,6 +4,7 @@ use Rattle.cm_exec.specs.declared.run.Run.{Run}
 use Rattle.cm_exec.specs.Run.{settled}
 use Rattle.cm_exec.specs.Running.{telling, used, adds}
 use Rattle.cm_exec.proofs.Going.{found_there, touch_asks, touch_finds, touch_misses, roomy_still}
+use Rattle.cm_exec.proofs.Growing.{keeps_none}
 use Rattle.cm_exec.proofs.run.Run.settle.Goals as goal
 
 pub use_cell-requires : goal.use_cell-requires
@@ -45,3 +46,9 @@ returns-in_ok-a-in-New-clause-turned g c = λ ps is more.
     c.take_touch-touch-in-New.ensures.rest))
     ∙ c.in_ok-a-in-New.ensures.turned ps
     (subst (λ (r : Run). IsCodeOf c.args.model.now r.code) (sym c.take_touch-touch-in-New.ensures.rest) is)
+
+pub returns-in-Ask-clause-satisfied : goal.returns-in-Ask-clause-satisfied
+returns-in-Ask-clause-satisfied g c = keeps_none _ _
+
+pub returns-in_ok-use_cell-in-Cell-clause-satisfied : goal.returns-in_ok-use_cell-in-Cell-clause-satisfied
+returns-in_ok-use_cell-in-Cell-clause-satisfied g c = keeps_none _ _
