@@ -1,0 +1,79 @@
+-- What a right leaf of a pair is, and a right node at which a question is open.
+use Rattle.std.specs.Prelude.{◌≡◌, ◌↔◌, ℕ, Bool, true, List, [], ◌∷◌, ◌++◌, map, IsTrue}
+use Rattle.std.specs.List.{AllByRecursion}
+use Rattle.cm_model.specs.Tables.{Tables}
+use Rattle.cm_model.specs.declared.pair.Pair.{Pair}
+use Rattle.cm_term.specs.declared.question.Question.{Question}
+use Rattle.cm_term.specs.declared.question.Fact.{Fact}
+use Rattle.cm_term.specs.Valuation.{Valuation, Var}
+use Rattle.cm_term.specs.Questions.{outcome_under, AreEqual}
+use Rattle.cm_eval.specs.declared.log.CellName.{CellName}
+use Rattle.cm_eval.specs.declared.state.Except.{Except}
+use Rattle.cm_cells.specs.CellTable.{Place}
+use Rattle.cm_cells.specs.Alike.{cell_under}
+use Rattle.cm_world.specs.declared.world.World.{World}
+use Rattle.cm_world.specs.World.{IsWorldOf}
+use Rattle.cm_world.specs.Order.{touched_cells}
+use Rattle.cm_world.specs.Path.{path_of_world}
+use Rattle.cm_world.specs.Commuting.{Commutes}
+use Rattle.cm_world.specs.OpenPrefix.{BeginsAPath}
+use Rattle.cm_beside.specs.declared.verdict.Verdict.{Verdict}
+use Rattle.cm_beside.specs.declared.verdict.Verdict.TheVariants as verdict
+use Rattle.cm_beside.specs.Related.{is_question}
+use Rattle.cm_beside.specs.Nodes.{pieces_of, IsValuation, Satisfies, Agrees, WorldSatisfies, grounds_of}
+
+abbrev pub StartsWith : List ℕ → List ℕ → Type 0
+StartsWith path front = (rest : List ℕ) × (path ≡ front ++ rest)
+
+-- the cells whose values are not the defaults, in order
+abbrev pub exceptions_of : World → List CellName
+exceptions_of w = map (λ (e : Except). e.cell) w.init.exceptions
+
+-- a valuation is that of a world, whose exceptions are these cells
+pub record IsValuationOf (t : Tables) (p : Pair) (v : Valuation) (places : List Place) (w : World) : Type 0 where
+  pub is_world : IsWorldOf t p w
+  pub agrees : Agrees t p v w places
+  pub exceptions : exceptions_of w ≡ map (cell_under v) places
+
+-- a verdict under a valuation
+abbrev pub IsSo : Valuation → Verdict → Type 0
+IsSo v verdict.Never = ⊥
+IsSo v (verdict.If es) = AllByRecursion (AreEqual v) es
+
+-- whichever symbols have values
+abbrev pub every : Var → Bool
+every x = true
+
+module _ (t : Tables) (p : Pair) where
+  pub record IsRightLeaf (path : List ℕ) (facts : List Fact) (places : List Place) (w : Verdict) : Type 0 where
+    -- a world has the path exactly where it satisfies the facts, with the cells' keys valued in order
+    pub has_path : (u : World) → IsWorldOf t p u → (path_of_world t p u ≡ path) ↔ WorldSatisfies t p u facts places
+    -- such a world has the leaf's touched cells, and it commutes exactly by the verdict
+    pub touches : (u : World) (v : Valuation) → IsWorldOf t p u → IsValuation (pieces_of t p places) v
+        → Agrees t p v u places → Satisfies v facts → touched_cells t p u ≡ map (cell_under v) places
+    pub commutes : (u : World) (v : Valuation) → IsWorldOf t p u → IsValuation (pieces_of t p places) v
+        → Agrees t p v u places → Satisfies v facts → Commutes t p u ↔ IsSo v w
+    -- each valuation that satisfies the facts is that of such a world
+    pub valued : (v : Valuation) → IsValuation (pieces_of t p places) v → Satisfies v facts
+        → (u : World) × IsValuationOf t p v places u
+
+  -- the same of a beginning of a path at which a question is open
+  pub record IsRightNode (front : List ℕ) (facts : List Fact) (places : List Place) (q : Question) : Type 0 where
+    -- a world's path begins so exactly where it satisfies the facts, with the cells' keys valued in order
+    pub begins : (u : World) → IsWorldOf t p u
+        → StartsWith (path_of_world t p u) front ↔ WorldSatisfies t p u facts places
+    -- its next decision is the question's outcome, and its first touched cells are these
+    pub goes_on : (u : World) (v : Valuation) → IsWorldOf t p u → IsValuation (pieces_of t p places) v
+        → Agrees t p v u places → Satisfies v facts
+        → StartsWith (path_of_world t p u) (front ++ outcome_under v q ∷ [])
+    pub touches : (u : World) (v : Valuation) → IsWorldOf t p u → IsValuation (pieces_of t p places) v
+        → Agrees t p v u places → Satisfies v facts
+        → (more : List CellName) × (touched_cells t p u ≡ map (cell_under v) places ++ more)
+    pub valued : (v : Valuation) → IsValuation (pieces_of t p places) v → Satisfies v facts
+        → (u : World) × IsValuationOf t p v places u
+    -- the question is on variables that are there, and its numbers are small
+    pub asked : (v : Valuation) → IsValuation (pieces_of t p places) v → Satisfies v facts
+        → IsTrue (is_question t (grounds_of (pieces_of t p places) v every) q)
+    -- its possible outcomes are those with which some path goes on
+    pub covers : (d : ℕ) → BeginsAPath t p (front ++ d ∷ [])
+        ↔ ((v : Valuation) × IsValuation (pieces_of t p places) v × Satisfies v facts × (outcome_under v q ≡ d))
