@@ -1,0 +1,4 @@
+pub mod Order
+pub mod Forks
+pub mod Told
+pub mod OfPairs
