@@ -4,7 +4,7 @@ ghost use Rattle.std.specs.Prelude.{◌≡◌, ◌<◌, ◌≤◌, ℕ, length, 
 ghost use Rattle.std.specs.Prelude.{option_copied, MatchOption, drop, List};
 ghost use Rattle.cm_value.specs.declared.value.Value.{Value};
 ghost use Rattle.cm_eval.specs.Evaluation.{named};
-ghost use Rattle.cm_eval.specs.State.{Store, look_up, put, least_store, same_cell, same_value, exception_of};
+ghost use Rattle.cm_eval.specs.State.{Store, store, look_up, put, least_store, same_cell, same_value, exception_of};
 ghost use Rattle.cm_eval.specs.inner.Places.{Finds};
 
 use crate::log::{CellName, copy_cell};
@@ -38,6 +38,17 @@ impl std::marker::Model for State {
 }
 
 impl State {
+    /// The state with these defaults, in the order of the declared states, and these exceptions, of which the first one
+    /// of a cell counts.
+    pub fn new(defaults: Vals, exceptions: List<Except>) -> State
+        ensures state { result ≡ store defaults.now exceptions.now }
+    {
+        State {
+            defaults,
+            exceptions,
+        }
+    }
+
     /// The state in which each cell has the least value of its type.
     pub fn least(alloc: Global, model: &Model) -> Result<State, NoMemory>
         ensures least { IfOk result (λ state. state ≡ least_store model.now) }
