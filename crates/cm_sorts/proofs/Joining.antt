@@ -4,6 +4,7 @@ use Rattle.std.proofs.Common.{false, not, min, max, nat_lt, nat_le, List, [], �
 use Rattle.std.proofs.Common.{ap, ◌∙◌, arith}
 use Rattle.std.proofs.lemmas.Bool.{cases_eq, cases_lt, or_cases, or_from, or_left, or_right, and_parts, and_from}
 use Rattle.std.proofs.lemmas.Bool.{and_right, eq-eqb, ne_eqb, eqb-true, lt-ltb, le-ltb, ltb-true, le-leb, leb-true}
+use Rattle.std.proofs.lemmas.Bool.{lt-leb}
 use Rattle.std.proofs.lemmas.Bool.{not-true}
 use Rattle.std.proofs.lemmas.List.{length-map, get_or-map}
 use Rattle.std.specs.List.{range_with_len}
@@ -454,4 +455,14 @@ roomy vs words new h room = rw (
   same_rows (length vs) words new h,
   le-leb (pairs_below (length vs)) (64 * length new)
       room,
+) refl
+
+-- where room is wanting before and after
+pub unroomy : (vs : List Variable) (words new : List ℕ) → ((k : ℕ) → is_set new k ≡ is_set words k)
+    → 64 * length words < pairs_below (length vs) → 64 * length new < pairs_below (length vs)
+    → partition_of vs new ≡ partition_of vs words
+unroomy vs words new h old_short new_short = rw (
+  same_rows (length vs) words new h,
+  lt-leb (pairs_below (length vs)) (64 * length new) new_short,
+  lt-leb (pairs_below (length vs)) (64 * length words) old_short,
 ) refl

@@ -1,6 +1,7 @@
 //! Classes of equal elements, and which of them differ.
 
-ghost use Rattle.std.specs.Prelude.{◌≡◌, ◌≢◌, ◌<◌, ◌≤◌, ◌↔◌, ◌++◌, ◌∷◌, [], ℕ, true, IsTrue, IfOk, OnOk, length};
+ghost use Rattle.std.specs.Prelude.{◌≡◌, ◌≢◌, ◌<◌, ◌≤◌, ◌↔◌, ◌++◌, ◌∷◌, [], ℕ, true, IsTrue, IfOk, OnOk, OnErr};
+ghost use Rattle.std.specs.Prelude.{length};
 ghost use Rattle.std.specs.Prelude.{slice_get, slice_index};
 ghost use Rattle.cm_sorts.specs.Partition.{Satisfies, IsSatisfiable, KeepsToSorts, Allows, Keeps, Implies};
 
@@ -145,8 +146,12 @@ impl Classes {
     }
 
     /// Makes room for each `differ` until the next `fresh`.
+    ///
+    /// # Errors
+    /// `NoMemory` where memory runs out; the classes are then as they were.
     pub fn reserve(&mut self) -> Result<(), NoMemory>
         ensures room { OnOk result (self.new ≡ record self.old { spare = true }) }
+        ensures unchanged { OnErr result (self.new ≡ self.old) }
         ensures sorts { self.new.sorts ≡ self.old.sorts }
     {
         words::make_room(&mut self.words, self.variables.len() as u64)

@@ -1,7 +1,7 @@
 //! Bits in words.
 
 ghost use Rattle.std.specs.Prelude.{◌≡◌, ◌<◌, ◌≤◌, ◌^◌, ◌+◌, ◌*◌, ◌-◌, ◌/◌, ◌&&◌, ◌||◌, ◌++◌, ℕ, false, length, map};
-ghost use Rattle.std.specs.Prelude.{slice_get, slice_index, replicate, OnOk};
+ghost use Rattle.std.specs.Prelude.{slice_get, slice_index, replicate, OnOk, OnErr};
 ghost use Rattle.cm_sorts.specs.inner.Pairs.{are_marked, is_pair, is_set, pairs_below};
 ghost use Rattle.cm_sorts.specs.inner.Words.{labels_of, sorts_of, is_shared, relabelled};
 
@@ -90,6 +90,8 @@ fn share_mark(words: &mut [u64], keep: u64, gone: u64, other: u64)
 pub fn make_room(words: &mut Vec<u64>, count: u64) -> Result<(), NoMemory>
     requires { count < 2 ^ 32 }
     ensures room { OnOk result (pairs_below count ≤ 64 * length words.new.items) }
+    ensures short { OnErr result (64 * length words.new.items < pairs_below count) }
+    ensures longer { length words.old.items ≤ length words.new.items }
     ensures kept { (k : ℕ) → is_set words.new.items k ≡ is_set words.old.items k }
 {
     let needed = pairs::pairs_below(count).div_ceil(64) as usize;

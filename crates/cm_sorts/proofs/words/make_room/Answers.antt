@@ -9,4 +9,5 @@ pub zeros-preserved : goal.zeros-preserved
 zeros-preserved c = record {
   same = λ k. rw c.in_ok-push.ensures.items (zero_set c.zeros.words.items k ∙ c.zeros.invariant.same k);
   long = omega (arith, c.in_ok-push.ensures.len);
+  longer = omega (arith, c.in_ok-push.ensures.len);
 }

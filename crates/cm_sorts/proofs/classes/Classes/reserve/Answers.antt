@@ -1,9 +1,9 @@
-use Rattle.std.proofs.Common.{◌≡◌, ◌≤◌, ◌*◌, length, ap, arith}
-use Rattle.std.proofs.lemmas.Result.{on_ok_weaker}
+use Rattle.std.proofs.Common.{◌≡◌, ◌≤◌, ◌<◌, ◌*◌, length, ap, arith}
+use Rattle.std.proofs.lemmas.Result.{on_ok_weaker, on_err_weaker}
 use Rattle.cm_sorts.specs.Partition.{Partition}
 use Rattle.cm_sorts.specs.inner.Pairs.{pairs_below}
 use Rattle.cm_sorts.specs.inner.Words.{labels_of, sorts_of}
-use Rattle.cm_sorts.proofs.Joining.{roomy, same_proper}
+use Rattle.cm_sorts.proofs.Joining.{roomy, unroomy, same_proper}
 use Rattle.cm_sorts.proofs.Sorting.{same_sorted}
 use Rattle.cm_sorts.proofs.classes.Classes.reserve.Goals as goal
 
@@ -25,6 +25,17 @@ returns-clause-room c =
     (roomy c.self.inside.variables.items c.self.inside.words.items c.make_room.new.words.items
     c.make_room.ensures.kept (rw (ap pairs_below long) at room)))
     c.make_room.ensures.room
+
+pub returns-clause-unchanged : goal.returns-clause-unchanged
+returns-clause-unchanged c =
+    let long : c.len.result ≡ length c.self.inside.variables.items = omega arith in
+    let longer : length c.self.inside.words.items ≤ length c.make_room.new.words.items = c.make_room.ensures.longer in
+    on_err_weaker c.make_room.result
+    (λ (short : 64 * length c.make_room.new.words.items < pairs_below c.len.result). rw (← c.self.view_is)
+    (let new_short = rw (ap pairs_below long) at short in
+    unroomy c.self.inside.variables.items c.self.inside.words.items c.make_room.new.words.items
+    c.make_room.ensures.kept (omega arith) new_short))
+    c.make_room.ensures.short
 
 pub returns-clause-sorts : goal.returns-clause-sorts
 returns-clause-sorts c = ap (λ (p : Partition). p.sorts) c.self.view_is
