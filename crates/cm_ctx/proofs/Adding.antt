@@ -12,7 +12,7 @@ use Rattle.cm_order.specs.Differences as order
 use Rattle.cm_ctx.specs.declared.piece.ElementPart.{ElementPart}
 use Rattle.cm_ctx.specs.declared.piece.NumberPart.{NumberPart}
 use Rattle.cm_ctx.specs.Giving.{EachFrom}
-use Rattle.cm_ctx.specs.Grown.{IsRange, AreRanges, LiesIn}
+use Rattle.cm_ctx.specs.Grown.{IsRange, LiesIn}
 use Rattle.cm_ctx.proofs.Each.{each_append}
 use Rattle.cm_ctx.proofs.Outcomes.{passed}
 

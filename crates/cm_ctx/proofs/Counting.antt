@@ -1,10 +1,10 @@
 -- How many variables there are, and valuations that are one on the first of them.
-use Rattle.std.proofs.Common.{◌≡◌, ◌<◌, ◌≤◌, ◌+◌, ◌↔◌, ℕ, List, [], ◌∷◌, ◌++◌, length, refl, sym, ap, subst, ◌∙◌, arith}
+use Rattle.std.proofs.Common.{◌≤◌, ◌↔◌, refl, ◌∙◌, arith}
 use Rattle.cm_term.specs.Valuation.{Valuation}
 use Rattle.cm_ctx.specs.declared.piece.Counts.{Counts}
 use Rattle.cm_ctx.specs.declared.piece.Variables.{Variables}
-use Rattle.cm_ctx.specs.Making.{counts, counted, both, variables}
-use Rattle.cm_ctx.specs.Giving.{EachFrom, Gives, Agree, IsWithin, IsVariant, HasPayload}
+use Rattle.cm_ctx.specs.Making.{counted, both}
+use Rattle.cm_ctx.specs.Giving.{Gives, Agree, IsWithin, IsVariant, HasPayload}
 use Rattle.cm_ctx.proofs.Each.{each_append}
 
 -- no more of each kind

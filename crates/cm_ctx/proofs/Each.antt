@@ -1,6 +1,6 @@
 -- Facts of each item of a list and its number.
 use Rattle.std.proofs.Common.{◌≡◌, ◌<◌, ◌≤◌, ◌+◌, ◌↔◌, ℕ, zero, suc, List, [], ◌∷◌, ◌++◌, map, length, slice_get, Some}
-use Rattle.std.proofs.Common.{refl, sym, ap, subst, ◌∙◌, arith}
+use Rattle.std.proofs.Common.{refl, sym, subst, arith}
 use Rattle.cm_ctx.specs.Giving.{EachFrom}
 
 next : (x i : ℕ) → (x + 1) + i ≡ x + suc i

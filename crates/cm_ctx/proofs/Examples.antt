@@ -9,7 +9,7 @@ use Rattle.cm_value.proofs.Types.{fold-int_type, fold-option}
 use Rattle.cm_term.specs.declared.symbol.Root.{Root}
 use Rattle.cm_ctx.specs.declared.piece.Counts.{Counts}
 use Rattle.cm_ctx.specs.declared.piece.Piece.{Piece}
-use Rattle.cm_ctx.specs.Making.{place, make_step, made_of, piece_of, record_makers, counted, Made}
+use Rattle.cm_ctx.specs.Making.{place, make_step, piece_of, record_makers, counted}
 use Rattle.cm_ctx.specs.Asking.{IsNew}
 use Rattle.cm_ctx.specs.Contexts.{Context, counts_of}
 

@@ -1,15 +1,15 @@
 -- What a value of each form of type is.
-use Rattle.std.proofs.Common.{◌≡◌, ◌⊎◌, inl, inr, ℕ, ℤ, Bool, true, false, List, map, slice_get, IsTrue, refl, sym, ap}
+use Rattle.std.proofs.Common.{◌≡◌, ◌⊎◌, inl, inr, ℕ, ℤ, true, List, map, slice_get, IsTrue, refl, sym}
 use Rattle.std.proofs.Common.{◌∙◌}
 use Rattle.cm_model.specs.Tables.{Tables}
 use Rattle.cm_model.specs.declared.ty.Ty.{Ty, out-Ty}
 use Rattle.cm_model.specs.declared.ty.Ty.TheOpen.{Ty-F}
 use Rattle.cm_value.specs.declared.value.Value.{Value}
 use Rattle.cm_value.specs.declared.value.Value.TheVariants as value
-use Rattle.cm_value.specs.Membership.{Member, member_of, is_value_of, IsValueOf, is_sort, is_number_of, is_variant_of}
+use Rattle.cm_value.specs.Membership.{member_of, IsValueOf, is_sort, is_number_of, is_variant_of}
 use Rattle.cm_value.specs.Membership.{is_record_of, is_none_of, is_some_of, is_within, has_variant, has_fields}
 use Rattle.cm_value.proofs.Members.{member-elem, member-int, member-tag, member-rec, member-none, member-some}
-use Rattle.cm_value.proofs.Induction.{Each, value_ind}
+use Rattle.cm_value.proofs.Induction.{value_ind}
 
 module _ (t : Tables) where
   abbrev pub Formed : Ty-F Ty → Value → Type 0

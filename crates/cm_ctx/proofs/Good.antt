@@ -1,50 +1,46 @@
 -- The terms of variables and the values of types: each valuation gives a term a value of its type, and each value of
 -- the type is given.
-use Rattle.std.proofs.Common.{◌≡◌, ◌<◌, ◌≤◌, ◌+◌, ◌==◌, ◌↔◌, ◌&&◌, ◌⊎◌, inl, inr, Bool, true, false, if◌then◌else◌}
-use Rattle.std.proofs.Common.{IsTrue, ltb, leb, int_le, ℕ, zero, suc, ℤ, pos, ◌+ℤ◌, ◌≤ℤ◌, List, [], ◌∷◌, ◌++◌, map}
-use Rattle.std.proofs.Common.{length, slice_get, Option, Some, None, refl, sym, ap, subst, ◌∙◌, arith}
+use Rattle.std.proofs.Common.{◌≡◌, ◌<◌, ◌≤◌, ◌+◌, ◌==◌, ◌&&◌, inl, inr, Bool, true, false, if◌then◌else◌}
+use Rattle.std.proofs.Common.{IsTrue, leb, int_le, ℕ, suc, ℤ, pos, ◌+ℤ◌, ◌≤ℤ◌, List, [], ◌∷◌, map}
+use Rattle.std.proofs.Common.{length, slice_get, Some, refl, sym, ap, subst, ◌∙◌, arith}
 use Rattle.std.proofs.lemmas.Bool.{ltb-true, lt-ltb, leb-true}
 use Rattle.std.proofs.lemmas.Bool.Decides.{nat_tests}
 use Rattle.std.proofs.lemmas.Int.{ints}
 use Rattle.cm_model.specs.Tables.{Tables}
 use Rattle.cm_model.specs.Types.{IsType, is_type_before, ty_step}
-use Rattle.cm_model.specs.WellTyped.{IsWellTyped, is_range, is_enum}
+use Rattle.cm_model.specs.WellTyped.{IsWellTyped}
 use Rattle.cm_model.specs.Limits.{is_number}
-use Rattle.cm_model.specs.declared.ty.Ty.{Ty, out-Ty}
+use Rattle.cm_model.specs.declared.ty.Ty.{Ty}
 use Rattle.cm_model.specs.declared.ty.Ty.TheVariants as ty
 use Rattle.cm_model.specs.declared.ty.Ty.TheOpen.{Ty-F}
-use Rattle.cm_model.specs.declared.ty.Ty.TheFolds.{map-Ty}
 use Rattle.cm_model.specs.declared.ty.Part.{Part}
 use Rattle.cm_model.specs.declared.ty.IntDecl.{IntDecl}
 use Rattle.cm_model.specs.declared.ty.EnumDecl.{EnumDecl}
 use Rattle.cm_model.specs.declared.ty.RecDecl.{RecDecl}
 use Rattle.cm_value.specs.declared.value.Value.{Value}
 use Rattle.cm_value.specs.declared.value.Value.TheVariants as value
-use Rattle.cm_value.specs.Membership.{Member, member_of, are_members, is_value_of, IsValueOf, is_sort, is_number_of}
+use Rattle.cm_value.specs.Membership.{member_of, are_members, is_value_of, IsValueOf, is_sort, is_number_of}
 use Rattle.cm_value.specs.Membership.{is_variant_of, is_record_of, is_none_of, is_some_of, is_within, has_variant}
 use Rattle.cm_value.specs.Membership.{has_fields, field_types}
 use Rattle.cm_value.proofs.Declared.{both, and_true, there, range_at, enum_at, field_before}
 use Rattle.cm_value.proofs.Members.{member-elem, member-int, member-tag, member-rec, member-none, member-some}
-use Rattle.cm_value.proofs.Types.{out_sort, out_int, out_enum, out_rec, out_option, type_before, fold-sort}
+use Rattle.cm_value.proofs.Types.{out_sort, out_int, out_enum, out_rec, out_option, fold-sort}
 use Rattle.cm_value.proofs.Types.{fold-int_type, fold-enum, fold-record, fold-option}
 use Rattle.cm_term.specs.declared.symbol.Step.TheVariants as step
-use Rattle.cm_term.specs.declared.term.Term.{Term}
 use Rattle.cm_term.specs.Valuation.{Valuation}
-use Rattle.cm_term.specs.Terms.{value_of, value_step}
+use Rattle.cm_term.specs.Terms.{value_of}
 use Rattle.cm_term.proofs.Values.{value_elem, value_num, value_tag, value_rec, value_either}
 use Rattle.cm_ctx.specs.declared.piece.Counts.{Counts}
 use Rattle.cm_ctx.specs.declared.piece.OptionPart.{OptionPart}
 use Rattle.cm_ctx.specs.declared.piece.Variables.{Variables}
-use Rattle.cm_ctx.specs.Making.{Place, place, into, behind, sym_of, counts, counted, variables, Made, Maker, Fields}
-use Rattle.cm_ctx.specs.Making.{fields_made, element_made, number_made, tag_made, option_made, record_made, made_in}
-use Rattle.cm_ctx.specs.Making.{made_of, record_makers}
+use Rattle.cm_ctx.specs.Making.{Place, into, behind, sym_of, counted, variables, Maker, Fields}
+use Rattle.cm_ctx.specs.Making.{fields_made, element_made, number_made, tag_made, option_made, record_made}
+use Rattle.cm_ctx.specs.Making.{made_of}
 use Rattle.cm_ctx.specs.Giving.{EachFrom, Gives, Agree, IsWithin, IsVariant, HasPayload}
 use Rattle.cm_ctx.proofs.Each.{each_so}
-use Rattle.cm_ctx.proofs.Growing.{counted_both}
-use Rattle.cm_ctx.proofs.Counting.{AtMost, at_most, at_most_same, agree_less, agree_then, agree_same, gives_both}
-use Rattle.cm_ctx.proofs.Seeing.{Sees, AllSee, below, SeesBelow, Grounded, Sound, AllSound, SoundFields, sound_element}
-use Rattle.cm_ctx.proofs.Seeing.{sound_number, sound_tag, sound_option, sound_record, sound_fields, sees_more}
-use Rattle.cm_ctx.proofs.Seeing.{values_seen}
+use Rattle.cm_ctx.proofs.Counting.{AtMost, at_most, agree_less, agree_then, agree_same, gives_both}
+use Rattle.cm_ctx.proofs.Seeing.{below, SeesBelow, Grounded, Sound, AllSound, SoundFields, sound_element}
+use Rattle.cm_ctx.proofs.Seeing.{sound_number, sound_tag, sound_option, sound_record, sound_fields}
 use Rattle.cm_ctx.proofs.Grounding.{put, put_here, put_elsewhere}
 use Rattle.cm_ctx.proofs.Makers.{maker_ind}
 use Rattle.cm_ctx.proofs.Forms.{Formed, formed}

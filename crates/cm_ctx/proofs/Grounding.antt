@@ -1,11 +1,11 @@
 -- Payloads can have the values of their terms, whatever the variables are.
-use Rattle.std.proofs.Common.{◌≡◌, ◌≢◌, ◌<◌, ◌≤◌, ◌+◌, ◌==◌, ◌⊎◌, inl, inr, ℕ, zero, suc, ℤ, Bool, true, false}
-use Rattle.std.proofs.Common.{if◌then◌else◌, List, [], ◌∷◌, length, slice_get, Some, refl, sym, ap, subst, ◌∙◌, arith}
+use Rattle.std.proofs.Common.{◌≡◌, ◌<◌, ◌+◌, ◌==◌, ℕ, ℤ, Bool, true, false}
+use Rattle.std.proofs.Common.{if◌then◌else◌, List, [], ◌∷◌, refl, sym, ◌∙◌, arith}
 use Rattle.std.proofs.lemmas.Bool.Decides.{nat_tests}
 use Rattle.cm_value.specs.declared.value.Value.{Value}
 use Rattle.cm_value.specs.declared.value.Value.TheVariants as value
 use Rattle.cm_term.specs.declared.term.Term.{Term}
-use Rattle.cm_term.specs.Valuation.{Valuation, valuation}
+use Rattle.cm_term.specs.Valuation.{valuation}
 use Rattle.cm_term.specs.Terms.{value_of}
 use Rattle.cm_ctx.specs.Giving.{EachFrom}
 use Rattle.cm_ctx.specs.Contexts.{Holds}

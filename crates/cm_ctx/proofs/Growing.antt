@@ -17,8 +17,8 @@ use Rattle.cm_term.specs.declared.term.Term.{Term}
 use Rattle.cm_term.specs.declared.term.Term.TheVariants as term
 use Rattle.cm_ctx.specs.declared.piece.Counts.{Counts}
 use Rattle.cm_ctx.specs.declared.piece.Variables.{Variables}
-use Rattle.cm_ctx.specs.Making.{Place, place, into, behind, counts, counted, both, variables, Made, Maker, Fields}
-use Rattle.cm_ctx.specs.Making.{fields, no_fields, first_field, fields_made, of_fields, record_made, made_in}
+use Rattle.cm_ctx.specs.Making.{Place, place, counted, both, variables, Made, Maker, Fields}
+use Rattle.cm_ctx.specs.Making.{first_field, fields_made, record_made, made_in}
 use Rattle.cm_ctx.specs.Making.{record_maker, record_makers}
 use Rattle.cm_ctx.specs.Growth.{Adds, AddsFields}
 

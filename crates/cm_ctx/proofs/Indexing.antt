@@ -1,6 +1,6 @@
 -- How what was made is found, as more is made.
-use Rattle.std.proofs.Common.{◌≡◌, ◌≢◌, ◌<◌, ◌≤◌, ◌+◌, ◌-◌, ◌*◌, ◌==◌, ◌⊎◌, inl, inr, ℕ, zero, suc, Bool, true, false}
-use Rattle.std.proofs.Common.{if◌then◌else◌, List, [], ◌∷◌, ◌++◌, map, length, replicate, get_or, slice_get}
+use Rattle.std.proofs.Common.{◌≡◌, ◌≢◌, ◌<◌, ◌≤◌, ◌+◌, ◌-◌, ◌*◌, ◌==◌, inl, inr, ℕ, zero, suc, Bool, true, false}
+use Rattle.std.proofs.Common.{List, [], ◌∷◌, ◌++◌, length, replicate, slice_get}
 use Rattle.std.proofs.Common.{slice_index_or, slice_set, Some, append_assoc, refl, sym, ap, subst, ◌∙◌, arith}
 use Rattle.std.proofs.lemmas.List.{length-append, length-map, length-replicate, get_or_append_left, get_or-append_right}
 use Rattle.std.proofs.lemmas.List.{get_or-replicate, get_or-set_same, get_or-set_other, append-nil}
@@ -9,10 +9,9 @@ use Rattle.std.proofs.lemmas.Bool.{cases_eq, cases_lt}
 use Rattle.std.proofs.lemmas.Bool.Decides.{nat_tests}
 use Rattle.cm_term.specs.declared.symbol.Root.{Root}
 use Rattle.cm_term.specs.declared.symbol.Root.TheVariants as root
-use Rattle.cm_term.specs.declared.term.Term.{Term}
 use Rattle.cm_ctx.specs.declared.piece.OptionPart.{OptionPart}
 use Rattle.cm_ctx.specs.declared.piece.Piece.{Piece}
-use Rattle.cm_ctx.specs.Contexts.{payloads_in, payloads_of}
+use Rattle.cm_ctx.specs.Contexts.{payloads_in, payloads_of, sorts_in, sorts_of}
 use Rattle.cm_ctx.specs.Asking.{IsAmong, IsNew, number_of, with_number, StandsIn, IsIndexed}
 
 pub payloads_append : (ps : List Piece) (p : Piece)
@@ -21,6 +20,13 @@ payloads_append [] p = append-nil (payloads_in p.variables.options)
 payloads_append (q ∷ ps) p =
     ap (λ ts. payloads_in q.variables.options ++ ts) (payloads_append ps p)
     ∙ sym (append_assoc (payloads_in q.variables.options) (payloads_of ps) (payloads_in p.variables.options))
+
+pub sorts_append : (ps : List Piece) (p : Piece)
+    → sorts_of (ps ++ p ∷ []) ≡ sorts_of ps ++ sorts_in p.variables.elements
+sorts_append [] p = append-nil (sorts_in p.variables.elements)
+sorts_append (q ∷ ps) p =
+    ap (λ ss. sorts_in q.variables.elements ++ ss) (sorts_append ps p)
+    ∙ sym (append_assoc (sorts_in q.variables.elements) (sorts_of ps) (sorts_in p.variables.elements))
 
 pub get_left : {A : Type 0} (xs ys : List A) (i : ℕ) → i < length xs → slice_get (xs ++ ys) i ≡ slice_get xs i
 get_left [] ys i lt = absurd (omega arith)

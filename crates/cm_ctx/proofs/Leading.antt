@@ -1,5 +1,5 @@
 -- The symbol of a variable names the variable's value.
-use Rattle.std.proofs.Common.{◌≡◌, ◌<◌, ◌+◌, ◌==◌, ◌+ℤ◌, ◌⊎◌, inl, inr, ℕ, zero, suc, ℤ, pos, Bool, true, false}
+use Rattle.std.proofs.Common.{◌≡◌, ◌+◌, ◌==◌, ◌+ℤ◌, ◌⊎◌, inl, inr, ℕ, ℤ, pos, Bool, true, false}
 use Rattle.std.proofs.Common.{if◌then◌else◌, IfSome, List, [], ◌∷◌, ◌++◌, map, length, slice_get, Option, Some, None}
 use Rattle.std.proofs.Common.{refl, sym, ap, subst, ◌∙◌, arith}
 use Rattle.std.proofs.lemmas.Int.{ints}
@@ -15,7 +15,6 @@ use Rattle.cm_term.specs.declared.symbol.Root.{Root}
 use Rattle.cm_term.specs.declared.symbol.Step.{Step}
 use Rattle.cm_term.specs.declared.symbol.Step.TheVariants as step
 use Rattle.cm_term.specs.declared.symbol.Sym.{Sym}
-use Rattle.cm_term.specs.declared.term.Term.{Term}
 use Rattle.cm_term.specs.Symbols.{part_in, field_in, payload_in, followed}
 use Rattle.cm_term.specs.Terms.{value_of}
 use Rattle.cm_term.specs.Valuation.{Valuation}
@@ -29,7 +28,7 @@ use Rattle.cm_ctx.specs.declared.piece.OptionPart.{OptionPart}
 use Rattle.cm_ctx.specs.declared.piece.Variables.{Variables}
 use Rattle.cm_ctx.specs.Belonging.{PayloadsHold, Leads, NamesPart, Names, option_value}
 use Rattle.cm_ctx.specs.Giving.{EachFrom}
-use Rattle.cm_ctx.specs.Making.{Place, place, into, behind, sym_of, counted, both, variables, Maker, Fields}
+use Rattle.cm_ctx.specs.Making.{Place, place, into, behind, sym_of, counted, both, variables, Maker}
 use Rattle.cm_ctx.specs.Making.{fields_made, element_made, number_made, tag_made, option_made, record_made, made_of}
 use Rattle.cm_ctx.specs.Making.{piece_of}
 use Rattle.cm_ctx.proofs.Each.{each_append, each_so}

@@ -1,5 +1,5 @@
 -- What is so of one part of a context is so of the whole.
-use Rattle.std.proofs.Common.{◌≡◌, ◌<◌, ◌↔◌, ℕ, ℤ, List, length, refl, sym, ap, ◌∙◌, arith}
+use Rattle.std.proofs.Common.{◌≡◌, ◌↔◌, ℕ, ℤ, List, sym}
 use Rattle.cm_sorts.specs.Partition.{Partition}
 use Rattle.cm_sorts.specs.Partition as sorts
 use Rattle.cm_order.specs.Differences.{Differences}
@@ -8,9 +8,9 @@ use Rattle.cm_ctx.specs.declared.choice.Choice.{Choice}
 use Rattle.cm_value.specs.declared.value.Value.{Value}
 use Rattle.cm_ctx.specs.Choices as choices
 use Rattle.cm_ctx.specs.Choices.{AreChoices}
-use Rattle.cm_term.specs.Valuation.{Valuation, valuation}
+use Rattle.cm_term.specs.Valuation.{valuation}
 use Rattle.cm_ctx.specs.declared.piece.Counts.{Counts}
-use Rattle.cm_ctx.specs.Contexts.{Context, Satisfies, Allows, Implies, Keeps, IsSatisfiable, Holds, payloads_of}
+use Rattle.cm_ctx.specs.Contexts.{Context, Satisfies, Allows, Implies, Keeps, IsSatisfiable, payloads_of}
 use Rattle.cm_ctx.specs.Proper.{IsProper}
 use Rattle.cm_ctx.proofs.Grounding.{ground}
 use Rattle.cm_ctx.proofs.Decided.{own_of, own_satisfies}

@@ -1,6 +1,6 @@
 -- That making a term ends: how much there is to make.
-use Rattle.std.proofs.Common.{◌≡◌, ℕ, zero, suc, ◌+◌, ◌*◌, ◌<◌, ◌≤◌, List, [], ◌∷◌, take, length, get_or, slice_get}
-use Rattle.std.proofs.Common.{Some, arith}
+use Rattle.std.proofs.Common.{ℕ, zero, suc, ◌+◌, ◌*◌, ◌<◌, ◌≤◌, List, [], ◌∷◌, take, length, get_or}
+use Rattle.std.proofs.Common.{arith}
 use Rattle.cm_model.specs.declared.ty.Ty.{size-Ty}
 use Rattle.cm_model.specs.declared.ty.Part.{Part}
 use Rattle.cm_model.specs.declared.ty.RecDecl.{RecDecl}

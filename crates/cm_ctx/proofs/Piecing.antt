@@ -1,6 +1,6 @@
 -- A context with one piece more.
-use Rattle.std.proofs.Common.{◌≡◌, ◌≢◌, ◌<◌, ◌≤◌, ◌+◌, ◌==◌, ◌↔◌, ◌⊎◌, inl, inr, ℕ, zero, suc, ℤ, Bool, true, false}
-use Rattle.std.proofs.Common.{if◌then◌else◌, List, [], ◌∷◌, ◌++◌, map, length, slice_get, Option, Some, None, IfSome}
+use Rattle.std.proofs.Common.{◌≡◌, ◌≢◌, ◌<◌, ◌≤◌, ◌+◌, ◌==◌, ◌↔◌, ℕ, zero, suc, Bool, true, false}
+use Rattle.std.proofs.Common.{List, [], ◌∷◌, ◌++◌, map, length, slice_get, Some, None}
 use Rattle.std.proofs.Common.{refl, sym, ap, subst, ◌∙◌, arith}
 use Rattle.std.proofs.lemmas.List.{length-append, length-map}
 use Rattle.std.proofs.lemmas.Bool.Decides.{nat_tests}
@@ -19,14 +19,14 @@ use Rattle.cm_ctx.specs.declared.piece.OptionPart.{OptionPart}
 use Rattle.cm_ctx.specs.declared.piece.Piece.{Piece}
 use Rattle.cm_ctx.specs.Choices.{Fits, choice_of, IsChoice, AreChoices}
 use Rattle.cm_ctx.specs.Choices as choices
-use Rattle.cm_ctx.specs.Making.{counts, counted, first_counts}
-use Rattle.cm_ctx.specs.Giving.{EachFrom, Gives, Agree, HasPayload}
-use Rattle.cm_ctx.specs.Contexts.{Context, context, counts_of, payloads_in, payloads_of, Holds, Satisfies, Keeps}
+use Rattle.cm_ctx.specs.Making.{counted, first_counts}
+use Rattle.cm_ctx.specs.Giving.{EachFrom, Gives}
+use Rattle.cm_ctx.specs.Contexts.{Context, context, counts_of, payloads_in, payloads_of, sorts_in, Holds, Keeps}
 use Rattle.cm_ctx.specs.Asking.{InRow}
 use Rattle.cm_ctx.specs.Proper.{IsEarlier, AreEarlier, IsProper}
-use Rattle.cm_ctx.specs.Grown.{LiesIn, AreEnums, IsEnum, tag_choices, option_choices, RestsBelow, IsFitting, Grows}
+use Rattle.cm_ctx.specs.Grown.{LiesIn, tag_choices, option_choices, RestsBelow, IsFitting, Grows}
 use Rattle.cm_ctx.proofs.Each.{each_there_append, each_map, each_so, each_pair}
-use Rattle.cm_ctx.proofs.Indexing.{payloads_append}
+use Rattle.cm_ctx.proofs.Indexing.{payloads_append, sorts_append}
 use Rattle.cm_ctx.proofs.Ranges.{all_append}
 use Rattle.cm_ctx.proofs.Rows.{row_more}
 
@@ -219,6 +219,7 @@ module _ (n : Counts) (c : Context) (proper : IsProper n c) (p : Piece) (fit : I
   pub proper_more : sorts.IsSatisfiable k → order.IsSatisfiable b → IsProper (counted n p.variables) grown
   proper_more some_sorts some_numbers = record {
     counts = ap (λ (x : Counts). counted x p.variables) proper.counts ∙ sym counts_more;
+    sorts = more_sorts ∙ ap (λ ss. ss ++ sorts_in p.variables.elements) proper.sorts ∙ sym (sorts_append c.pieces p);
     elements = some_sorts;
     numbers = some_numbers;
     zero = omega (arith, more_numbers, proper.zero);

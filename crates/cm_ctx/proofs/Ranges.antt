@@ -1,7 +1,7 @@
 -- The ranges of the numbers and the variants of the tags that are made for types of a well typed model.
-use Rattle.std.proofs.Common.{◌≡◌, ◌<◌, ◌≤◌, ◌+◌, ◌&&◌, Bool, true, false, IsTrue, leb, int_le, ℕ, zero, suc, ℤ, pos}
-use Rattle.std.proofs.Common.{negsuc, neg_ℤ, ◌≤ℤ◌, List, [], ◌∷◌, ◌++◌, map, length, slice_get, Option, Some, None}
-use Rattle.std.proofs.Common.{refl, sym, ap, subst, ◌∙◌, arith}
+use Rattle.std.proofs.Common.{◌≡◌, ◌<◌, ◌≤◌, ◌+◌, ◌&&◌, true, IsTrue, leb, int_le, ℕ, zero, suc, ℤ, pos}
+use Rattle.std.proofs.Common.{neg_ℤ, ◌≤ℤ◌, List, [], ◌∷◌, ◌++◌, map, length, slice_get, Option, Some, None}
+use Rattle.std.proofs.Common.{refl, subst, arith}
 use Rattle.std.specs.List.{list_all}
 use Rattle.std.proofs.lemmas.Int.{ints}
 use Rattle.std.proofs.lemmas.Bool.{leb-true}
@@ -12,13 +12,10 @@ use Rattle.cm_model.specs.declared.ty.Part.{Part}
 use Rattle.cm_model.specs.declared.ty.IntDecl.{IntDecl}
 use Rattle.cm_model.specs.declared.ty.EnumDecl.{EnumDecl}
 use Rattle.cm_model.specs.declared.ty.RecDecl.{RecDecl}
-use Rattle.cm_value.specs.Least.{lowest}
 use Rattle.cm_value.proofs.Declared.{both, all_at}
 use Rattle.cm_term.specs.declared.symbol.Step.TheVariants as step
-use Rattle.cm_ctx.specs.declared.piece.NumberPart.{NumberPart}
-use Rattle.cm_ctx.specs.declared.piece.TagPart.{TagPart}
-use Rattle.cm_ctx.specs.Making.{Place, into, behind, Made, Maker, Fields, fields_made, element_made, number_made}
-use Rattle.cm_ctx.specs.Making.{tag_made, option_made, record_made, made_in, record_makers, variants_of, highest}
+use Rattle.cm_ctx.specs.Making.{Place, into, behind, Maker, Fields, fields_made, number_made}
+use Rattle.cm_ctx.specs.Making.{tag_made, option_made, record_made, made_in, record_makers}
 use Rattle.cm_ctx.specs.Making.{piece_of, place}
 use Rattle.cm_model.specs.Tables.{Tables}
 use Rattle.cm_model.specs.WellTyped.{IsWellTyped}

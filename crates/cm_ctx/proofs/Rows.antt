@@ -1,6 +1,6 @@
 -- Pieces whose variables stand one behind another.
-use Rattle.std.proofs.Common.{◌≡◌, ◌<◌, ◌≤◌, ◌+◌, ◌-◌, ◌⊎◌, inl, inr, ℕ, zero, suc, List, [], ◌∷◌, ◌++◌, map, length}
-use Rattle.std.proofs.Common.{slice_get, Some, refl, sym, ap, subst, ◌∙◌, arith}
+use Rattle.std.proofs.Common.{◌≡◌, ◌<◌, ◌+◌, ◌-◌, inl, inr, ℕ, zero, suc, List, [], ◌∷◌, ◌++◌, length}
+use Rattle.std.proofs.Common.{slice_get, Some, sym, ap, subst, ◌∙◌, arith}
 use Rattle.std.proofs.lemmas.List.{length-map}
 use Rattle.std.proofs.lemmas.Option.{slice_get_within}
 use Rattle.std.proofs.lemmas.Bool.{cases_lt}
@@ -9,11 +9,11 @@ use Rattle.cm_term.specs.Valuation.{Var, OfElement, OfNumber, OfTag, OfOption}
 use Rattle.cm_ctx.specs.declared.piece.Counts.{Counts}
 use Rattle.cm_ctx.specs.declared.piece.OptionPart.{OptionPart}
 use Rattle.cm_ctx.specs.declared.piece.Piece.{Piece}
-use Rattle.cm_ctx.specs.Making.{counts, counted, first_counts}
+use Rattle.cm_ctx.specs.Making.{counted, first_counts}
 use Rattle.cm_ctx.specs.Contexts.{payloads_in, payloads_of}
-use Rattle.cm_ctx.specs.Asking.{IsAmong, IsPayload, InRow, Owns}
+use Rattle.cm_ctx.specs.Asking.{IsPayload, InRow, Owns}
 use Rattle.cm_ctx.proofs.Counting.{AtMost, at_most, at_most_same}
-use Rattle.cm_ctx.proofs.Indexing.{get_left, get_right, the_same}
+use Rattle.cm_ctx.proofs.Indexing.{get_left, get_right}
 
 pub row_more : (a b : Counts) (ps : List Piece) (p : Piece) → InRow a ps b → p.from ≡ b
     → InRow a (ps ++ p ∷ []) (counted b p.variables)

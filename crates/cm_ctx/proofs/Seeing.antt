@@ -1,36 +1,25 @@
 -- On which variables the value of a term rests, and what is so of all that is made.
-use Rattle.std.proofs.Common.{◌≡◌, ◌<◌, ◌≤◌, ◌+◌, ◌==◌, ◌↔◌, ◌&&◌, Bool, true, false, if◌then◌else◌, IsTrue, leb, ℕ}
-use Rattle.std.proofs.Common.{zero, suc, ℤ, pos, negsuc, ◌+ℤ◌, ◌≤ℤ◌, List, [], ◌∷◌, ◌++◌, map, length, slice_get}
-use Rattle.std.proofs.Common.{Option, Some, None, refl, sym, ap, subst, ◌∙◌, arith}
-use Rattle.std.specs.List.{list_all}
-use Rattle.cm_model.specs.declared.ty.Ty.{Ty}
-use Rattle.cm_model.specs.declared.ty.Part.{Part}
+use Rattle.std.proofs.Common.{◌≡◌, ◌+◌, ◌==◌, if◌then◌else◌, ℕ}
+use Rattle.std.proofs.Common.{pos, ◌+ℤ◌, List, [], ◌∷◌, map, length}
+use Rattle.std.proofs.Common.{Option, refl, sym, ap, subst, ◌∙◌, arith}
 use Rattle.cm_model.specs.declared.ty.IntDecl.{IntDecl}
 use Rattle.cm_model.specs.declared.ty.EnumDecl.{EnumDecl}
-use Rattle.cm_model.specs.declared.ty.RecDecl.{RecDecl}
-use Rattle.cm_value.specs.declared.value.Value.{Value}
 use Rattle.cm_value.specs.declared.value.Value.TheVariants as value
-use Rattle.cm_value.specs.Least.{lowest}
 use Rattle.cm_term.specs.declared.symbol.Step.TheVariants as step
 use Rattle.cm_term.specs.declared.term.Term.{Term}
-use Rattle.cm_term.specs.declared.term.Term.TheVariants as term
-use Rattle.cm_term.specs.declared.term.Term.TheOpen.{Term-F}
 use Rattle.cm_term.specs.Valuation.{Valuation}
-use Rattle.cm_term.specs.Terms.{value_of, value_step}
+use Rattle.cm_term.specs.Terms.{value_of}
 use Rattle.cm_term.proofs.Values.{value_elem, value_num, value_tag, value_rec, value_either}
 use Rattle.cm_ctx.specs.declared.piece.Counts.{Counts}
-use Rattle.cm_ctx.specs.declared.piece.NumberPart.{NumberPart}
-use Rattle.cm_ctx.specs.declared.piece.TagPart.{TagPart}
 use Rattle.cm_ctx.specs.declared.piece.OptionPart.{OptionPart}
 use Rattle.cm_ctx.specs.declared.piece.Variables.{Variables}
-use Rattle.cm_ctx.specs.Making.{Place, place, into, behind, sym_of, counts, counted, both, variables, Made, Maker}
-use Rattle.cm_ctx.specs.Making.{Fields, fields_made, no_fields, first_field, of_fields, element_made, number_made}
-use Rattle.cm_ctx.specs.Making.{tag_made, option_made, with_option, record_made, made_in, record_makers, variants_of}
-use Rattle.cm_ctx.specs.Making.{highest}
-use Rattle.cm_ctx.specs.Giving.{EachFrom, Gives, Agree, IsWithin, IsVariant, HasPayload}
+use Rattle.cm_ctx.specs.Making.{Place, into, behind, sym_of, counts, counted, both, variables, Made, Maker}
+use Rattle.cm_ctx.specs.Making.{Fields, fields_made, element_made, number_made}
+use Rattle.cm_ctx.specs.Making.{tag_made, option_made, record_made}
+use Rattle.cm_ctx.specs.Giving.{EachFrom, Agree}
 use Rattle.cm_ctx.proofs.Each.{each_append, each_so}
 use Rattle.cm_ctx.proofs.Growing.{counted_both}
-use Rattle.cm_ctx.proofs.Counting.{AtMost, at_most, at_most_same, agree_less}
+use Rattle.cm_ctx.proofs.Counting.{AtMost, at_most, agree_less}
 
 -- the value of a term rests on the first variables alone
 abbrev pub Sees : Counts → Term → Type 0

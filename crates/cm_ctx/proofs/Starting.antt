@@ -1,11 +1,11 @@
 -- A context that was asked for nothing.
-use Rattle.std.proofs.Common.{◌≡◌, ◌<◌, List, [], Bool, Some, slice_get, subst, sym, ℕ, arith}
+use Rattle.std.proofs.Common.{◌≡◌, List, [], Bool, subst, sym}
 use Rattle.cm_sorts.specs.Partition.{Partition}
 use Rattle.cm_order.specs.Differences.{Differences}
 use Rattle.cm_ctx.specs.declared.piece.Counts.{Counts}
 use Rattle.cm_ctx.specs.declared.choice.Choice.{Choice}
 use Rattle.cm_ctx.specs.declared.piece.Piece.{Piece}
-use Rattle.cm_ctx.specs.Choices.{IsChoice, AreChoices}
+use Rattle.cm_ctx.specs.Choices.{AreChoices}
 use Rattle.cm_ctx.specs.Contexts.{payloads_of, context}
 use Rattle.cm_ctx.specs.Proper.{AreEarlier, IsProper}
 
@@ -20,6 +20,7 @@ pub other_spare : (n : Counts) (k : Partition) (b : Differences) (ts os : List C
     → IsProper n (context k b ts os ps) → IsProper n (context (record k { spare = s }) b ts os ps)
 other_spare n k b ts os ps s h = record {
   counts = h.counts;
+  sorts = h.sorts;
   elements = (h.elements.0, record { same = h.elements.1.same; apart = h.elements.1.apart });
   numbers = h.numbers;
   zero = h.zero;

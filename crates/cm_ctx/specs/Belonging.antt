@@ -1,5 +1,5 @@
 -- Whose the variables of a term are, and which part of a value the symbol of a variable names.
-use Rattle.std.specs.Prelude.{◌≡◌, ◌==◌, ℕ, List, Option, Some, IfSome, if◌then◌else◌}
+use Rattle.std.specs.Prelude.{◌≡◌, ◌==◌, ℕ, List, Some, IfSome, if◌then◌else◌}
 use Rattle.std.specs.List.{AllByRecursion}
 use Rattle.cm_value.specs.declared.value.Value.{Value}
 use Rattle.cm_value.specs.declared.value.Value.TheVariants as value

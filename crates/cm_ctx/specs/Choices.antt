@@ -1,5 +1,5 @@
 -- Parts with finitely many outcomes, some of which are decided: variants of enums, and whether options are there.
-use Rattle.std.specs.Prelude.{◌≡◌, ◌==◌, ◌<◌, ◌≤◌, ◌↔◌, ℕ, if◌then◌else◌, List, length, slice_get, Option, Some, None}
+use Rattle.std.specs.Prelude.{◌≡◌, ◌==◌, ◌<◌, ◌≤◌, ◌↔◌, ℕ, if◌then◌else◌, List, slice_get, Some, None}
 use Rattle.std.specs.Prelude.{IfSome}
 use Rattle.cm_ctx.specs.declared.choice.Choice.{Choice}
 

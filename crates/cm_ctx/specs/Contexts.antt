@@ -1,6 +1,6 @@
 -- What is known of the variables of terms, and which valuations satisfy it.
-use Rattle.std.specs.Prelude.{◌≡◌, ◌<◌, ◌+◌, ◌↔◌, ℕ, ℤ, pos, neg_ℤ, ◌≤ℤ◌, List, [], ◌∷◌, ◌++◌, map, length, slice_get}
-use Rattle.std.specs.Prelude.{slice_index, Option, Some, None, IsTrue}
+use Rattle.std.specs.Prelude.{◌≡◌, ◌<◌, ◌↔◌, ℕ, ℤ, pos, neg_ℤ, ◌≤ℤ◌, List, [], ◌∷◌, ◌++◌, map, length, slice_get}
+use Rattle.std.specs.Prelude.{slice_index, Some, IsTrue}
 use Rattle.cm_sorts.specs.Partition.{Partition}
 use Rattle.cm_sorts.specs.Partition as sorts
 use Rattle.cm_order.specs.Differences.{Differences}
@@ -18,6 +18,7 @@ use Rattle.cm_term.specs.Atoms.{var_of, offset_of}
 use Rattle.cm_term.specs.Terms.{value_of}
 use Rattle.cm_ctx.specs.declared.choice.Choice.{Choice}
 use Rattle.cm_ctx.specs.declared.piece.Counts.{Counts}
+use Rattle.cm_ctx.specs.declared.piece.ElementPart.{ElementPart}
 use Rattle.cm_ctx.specs.declared.piece.OptionPart.{OptionPart}
 use Rattle.cm_ctx.specs.declared.piece.Piece.{Piece}
 use Rattle.cm_ctx.specs.Choices as choices
@@ -44,6 +45,14 @@ payloads_in os = map (λ (o : OptionPart). o.payload) os
 abbrev pub payloads_of : List Piece → List Term
 payloads_of [] = []
 payloads_of (p ∷ ps) = payloads_in p.variables.options ++ payloads_of ps
+
+-- the sorts of the variables of elements, in order
+abbrev pub sorts_in : List ElementPart → List ℕ
+sorts_in es = map (λ (e : ElementPart). e.sort) es
+
+abbrev pub sorts_of : List Piece → List ℕ
+sorts_of [] = []
+sorts_of (p ∷ ps) = sorts_in p.variables.elements ++ sorts_of ps
 
 -- each payload has the value of its term
 abbrev pub Holds : List Term → Valuation → Type 0

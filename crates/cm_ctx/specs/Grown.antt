@@ -4,11 +4,9 @@ use Rattle.cm_ctx.specs.declared.choice.Choice.{Choice}
 use Rattle.cm_ctx.specs.declared.piece.NumberPart.{NumberPart}
 use Rattle.cm_ctx.specs.declared.piece.TagPart.{TagPart}
 use Rattle.cm_ctx.specs.declared.piece.OptionPart.{OptionPart}
-use Rattle.cm_term.specs.declared.term.Term.{Term}
 use Rattle.cm_term.specs.Valuation.{Valuation}
 use Rattle.cm_term.specs.Terms.{value_of}
 use Rattle.cm_ctx.specs.declared.piece.ElementPart.{ElementPart}
-use Rattle.cm_ctx.specs.declared.piece.Variables.{Variables}
 use Rattle.cm_ctx.specs.declared.piece.Counts.{Counts}
 use Rattle.cm_ctx.specs.declared.piece.Piece.{Piece}
 use Rattle.cm_ctx.specs.Choices.{choice_of}

@@ -1,5 +1,5 @@
 -- What making a term adds to the variables made before.
-use Rattle.std.specs.Prelude.{◌≡◌, ◌+◌, ℕ, List, [], map, slice_get}
+use Rattle.std.specs.Prelude.{◌≡◌, ℕ, List, [], map, slice_get}
 use Rattle.cm_model.specs.Types.{or_else}
 use Rattle.cm_model.specs.declared.ty.Ty.{Ty}
 use Rattle.cm_model.specs.declared.ty.Part.{Part}
@@ -8,7 +8,7 @@ use Rattle.cm_term.specs.declared.symbol.Step.{Step}
 use Rattle.cm_term.specs.declared.term.Term.{Term}
 use Rattle.cm_ctx.specs.declared.piece.Variables.{Variables}
 use Rattle.cm_ctx.specs.declared.making.Making.{Making}
-use Rattle.cm_ctx.specs.Making.{Place, place, counted, both, Made, Maker, Fields, fields_made, made_in, record_makers}
+use Rattle.cm_ctx.specs.Making.{Place, place, counted, both, Made, Maker, Fields, made_in, record_makers}
 use Rattle.cm_ctx.specs.Making.{record_made}
 
 -- where the next part is made

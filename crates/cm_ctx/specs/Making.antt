@@ -8,11 +8,7 @@ use Rattle.cm_model.specs.declared.ty.Ty.TheFolds.{fold-Ty}
 use Rattle.cm_model.specs.declared.ty.IntDecl.{IntDecl}
 use Rattle.cm_model.specs.declared.ty.EnumDecl.{EnumDecl}
 use Rattle.cm_model.specs.declared.ty.RecDecl.{RecDecl}
-use Rattle.cm_model.specs.declared.variable.SortVar.{SortVar}
-use Rattle.cm_model.specs.declared.variable.IntVar.{IntVar}
 use Rattle.cm_value.specs.Least.{lowest}
-use Rattle.cm_term.specs.declared.atom.TagVar.{TagVar}
-use Rattle.cm_term.specs.declared.atom.OptVar.{OptVar}
 use Rattle.cm_term.specs.declared.atom.Num.TheVariants as num
 use Rattle.cm_term.specs.declared.atom.Tag.TheVariants as tag
 use Rattle.cm_term.specs.declared.symbol.Step.{Step}

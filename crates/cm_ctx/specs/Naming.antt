@@ -1,5 +1,5 @@
 -- The symbols of variables.
-use Rattle.std.specs.Prelude.{ℕ, List, [], ◌∷◌, ◌++◌, map}
+use Rattle.std.specs.Prelude.{List, [], ◌∷◌, ◌++◌, map}
 use Rattle.cm_term.specs.declared.symbol.Sym.{Sym}
 use Rattle.cm_ctx.specs.declared.piece.ElementPart.{ElementPart}
 use Rattle.cm_ctx.specs.declared.piece.NumberPart.{NumberPart}

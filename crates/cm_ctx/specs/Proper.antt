@@ -6,12 +6,11 @@ use Rattle.cm_value.specs.declared.value.Value.{Value}
 use Rattle.cm_term.specs.declared.term.Term.{Term}
 use Rattle.cm_term.specs.Valuation.{valuation}
 use Rattle.cm_term.specs.Terms.{value_of}
-use Rattle.cm_ctx.specs.declared.choice.Choice.{Choice}
 use Rattle.cm_ctx.specs.declared.piece.Counts.{Counts}
 use Rattle.cm_ctx.specs.Choices.{AreChoices}
 use Rattle.cm_ctx.specs.Making.{first_counts}
 use Rattle.cm_ctx.specs.Asking.{InRow}
-use Rattle.cm_ctx.specs.Contexts.{Context, counts_of, payloads_of}
+use Rattle.cm_ctx.specs.Contexts.{Context, counts_of, payloads_of, sorts_of}
 
 -- the value of a term rests on no payload but those of the options below k
 abbrev pub IsEarlier : ℕ → Term → Type 0
@@ -32,3 +31,4 @@ pub record IsProper (n : Counts) (c : Context) : Type 0 where
   pub payloads : length c.options ≡ length (payloads_of c.pieces)
   pub row : InRow first_counts c.pieces (counts_of c)
   pub earlier : AreEarlier (payloads_of c.pieces)
+  pub sorts : c.classes.sorts ≡ sorts_of c.pieces

@@ -21,7 +21,7 @@ ghost use Rattle.cm_ctx.specs.Belonging.{OwnsAll, PayloadsHold, Names};
 ghost use Rattle.cm_ctx.specs.Grown.{IsFitting, Grows};
 ghost use Rattle.cm_ctx.specs.Asking.{IsAmong, IsNew, IsPayload, InRow, Owns};
 ghost use Rattle.cm_ctx.specs.Contexts.{Satisfies, Allows, Keeps, Implies, IsSatisfiable, IsQuestion, HasSpare};
-ghost use Rattle.cm_ctx.specs.Contexts.{counts_of, payloads_of};
+ghost use Rattle.cm_ctx.specs.Contexts.{counts_of, payloads_of, sorts_of};
 ghost use Rattle.cm_ctx.specs.declared.naming.Kind.TheVariants as kind;
 ghost use Rattle.cm_ctx.specs.Naming.{syms_of};
 ghost use Rattle.cm_ctx.specs.Knowing.{known_of};
@@ -97,10 +97,12 @@ impl Ctx {
         })
     }
 
-    /// Tells a proof that some valuation satisfies the context, and that no variable was made for two symbols.
+    /// Tells a proof that some valuation satisfies the context, that the elements' variables have the sorts for which they
+    /// were made, and that no variable was made for two symbols.
     pub fn has_valuation(&self)
         ensures satisfiable { IsSatisfiable self.now }
         ensures row { InRow first_counts self.now.pieces (counts_of self.now) }
+        ensures sorts { self.now.classes.sorts ≡ sorts_of self.now.pieces }
         ensures apart { (j k : ℕ) (p q : Piece) (x : Var) → slice_get self.now.pieces j ≡ Some p
             → slice_get self.now.pieces k ≡ Some q
             → Owns p x → Owns q x → j ≡ k }
@@ -111,9 +113,10 @@ impl Ctx {
     /// Makes room for the outcome of any question until the next `fresh_of`.
     ///
     /// # Errors
-    /// `NoMemory` where memory runs out.
+    /// `NoMemory` where memory runs out; the context is then as it was.
     pub fn reserve(&mut self) -> Result<(), NoMemory>
         ensures room { OnOk result (self.new ≡ record self.old { classes = record self.old.classes { spare = true } }) }
+        ensures unchanged { OnErr result (self.new ≡ self.old) }
     {
         let reserved = self.classes.reserve();
         self.classes.has_valuation();

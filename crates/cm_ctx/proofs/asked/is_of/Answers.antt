@@ -1,5 +1,4 @@
-use Rattle.std.proofs.Common.{◌≡◌, ◌∙◌, Some, slice_get, sym, ap, arith}
-use Rattle.std.proofs.lemmas.Option.{slice_get_within}
+use Rattle.std.proofs.Common.{◌∙◌, ap}
 use Rattle.cm_ctx.specs.declared.piece.Piece.{Piece}
 use Rattle.cm_ctx.proofs.Indexing.{the_same}
 use Rattle.cm_ctx.proofs.asked.is_of.Goals as goal

@@ -1,5 +1,4 @@
-use Rattle.std.proofs.Common.{◌≡◌, sym, ap, ◌∙◌, subst, Some, ℕ, slice_get}
-use Rattle.cm_ctx.specs.Choices.{Fits}
+use Rattle.std.proofs.Common.{◌≡◌, Some, slice_get}
 use Rattle.cm_ctx.proofs.Decided.{decide_kept, decide_proper, choice_exact}
 use Rattle.cm_ctx.proofs.choice.decide.Goals as goal
 

@@ -1,4 +1,3 @@
-use Rattle.std.proofs.Common.{◌≡◌, ℕ}
 use Rattle.cm_ctx.proofs.choice.decide_tag.Goals as goal
 
 pub returns-in-Var-clause-kept : goal.returns-in-Var-clause-kept

@@ -1,4 +1,4 @@
-use Rattle.std.proofs.Common.{◌≡◌, ◌↔◌, ◌<◌, ◌≤◌, arith, sym, ap, ◌∙◌, subst, slice_index_or, Some, ℕ}
+use Rattle.std.proofs.Common.{◌<◌, sym, ◌∙◌, subst}
 use Rattle.cm_ctx.proofs.Decided.{decided_few, fits_decided, fits_free, found, choice_exact}
 use Rattle.cm_ctx.proofs.choice.outcomes.Goals as goal
 

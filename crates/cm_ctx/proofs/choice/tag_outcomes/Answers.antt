@@ -1,4 +1,3 @@
-use Rattle.std.proofs.Common.{◌≡◌, ◌↔◌, ℕ, sym, ap, ◌∙◌, subst}
 use Rattle.cm_ctx.proofs.Decided.{constant_exact}
 use Rattle.cm_ctx.proofs.Through.{through, of_same}
 use Rattle.cm_ctx.proofs.choice.tag_outcomes.Goals as goal

@@ -1,4 +1,3 @@
-use Rattle.std.proofs.Common.{false}
 use Rattle.cm_ctx.proofs.Outcomes.{elements_exact}
 use Rattle.cm_ctx.proofs.elements.outcomes.Goals as goal
 

@@ -1,4 +1,4 @@
-use Rattle.std.proofs.Common.{◌≡◌, arith, sym, subst, take, []}
+use Rattle.std.proofs.Common.{arith, sym, subst, []}
 use Rattle.cm_sorts.specs.Partition.{Partition}
 use Rattle.cm_ctx.proofs.Adding.{SameElements, at_item, same_starts, same_more, take_all}
 use Rattle.cm_ctx.proofs.grown.with_elements.Goals as goal

@@ -1,6 +1,4 @@
-use Rattle.std.proofs.Common.{◌≡◌, ◌++◌, ◌↔◌, ℕ, map, take}
-use Rattle.cm_sorts.specs.Partition as sorts
-use Rattle.cm_ctx.specs.declared.piece.ElementPart.{ElementPart}
+use Rattle.std.proofs.Common.{take}
 use Rattle.cm_ctx.proofs.Adding.{SameElements}
 use Rattle.cm_ctx.proofs.grown.with_elements.Given as goal
 

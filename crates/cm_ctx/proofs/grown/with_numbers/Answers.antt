@@ -1,5 +1,5 @@
-use Rattle.std.proofs.Common.{◌≡◌, arith, sym, subst, take}
-use Rattle.cm_ctx.proofs.Adding.{MoreNumbers, at_item, numbers_start, numbers_more, take_all, same_end, same_low}
+use Rattle.std.proofs.Common.{arith, subst}
+use Rattle.cm_ctx.proofs.Adding.{MoreNumbers, at_item, numbers_more, take_all, same_low}
 use Rattle.cm_ctx.proofs.Adding.{same_high}
 use Rattle.cm_ctx.proofs.grown.with_numbers.Goals as goal
 

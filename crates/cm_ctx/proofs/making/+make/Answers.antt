@@ -1,12 +1,11 @@
-use Rattle.std.proofs.Common.{rules, arith, ◌≡◌, ◌+◌, ◌++◌, ◌∷◌, [], List, ◌∙◌, ap, sym, subst, refl, length, ◌≤◌}
+use Rattle.std.proofs.Common.{arith, List, ap, subst, length, ◌≤◌}
 use Rattle.std.proofs.lemmas.Result.{IfOk-weaker}
 use Rattle.cm_model.specs.declared.ty.Part.{Part}
 use Rattle.cm_term.specs.declared.symbol.Step.{Step}
-use Rattle.cm_term.specs.declared.term.Term.{Term}
 use Rattle.cm_ctx.specs.Making.{place, counted}
-use Rattle.cm_ctx.specs.Growth.{maker_of, field_makers, Adds}
+use Rattle.cm_ctx.specs.Growth.{maker_of, Adds}
 use Rattle.cm_ctx.proofs.Measures.{load_at, size_at, sizes}
-use Rattle.cm_ctx.proofs.Growing.{Going, going_step, adds_nothing, adds_record}
+use Rattle.cm_ctx.proofs.Growing.{going_step, adds_nothing, adds_record}
 use Rattle.cm_ctx.proofs.making.+make.Goals as goal
 
 pub make_fields-make-requires : goal.make_fields-make-requires

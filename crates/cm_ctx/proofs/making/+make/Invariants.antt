@@ -1,7 +1,6 @@
-use Rattle.std.proofs.Common.{ℕ, ◌+◌, ◌*◌}
+use Rattle.std.proofs.Common.{◌+◌, ◌*◌}
 use Rattle.cm_model.specs.declared.ty.Ty.{size-Ty}
-use Rattle.cm_ctx.specs.Making.{fields_made}
-use Rattle.cm_ctx.specs.Growth.{at, field_makers}
+use Rattle.cm_ctx.specs.Growth.{field_makers}
 use Rattle.cm_ctx.proofs.Measures.{sizes, load}
 use Rattle.cm_ctx.proofs.Growing.{Going}
 use Rattle.cm_ctx.proofs.making.+make.Given as goal

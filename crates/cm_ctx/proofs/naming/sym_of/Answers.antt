@@ -1,6 +1,6 @@
-use Rattle.std.proofs.Common.{◌≡◌, ◌<◌, sym, ap, ◌∙◌, arith, length}
+use Rattle.std.proofs.Common.{sym, ap, ◌∙◌, arith, length}
 use Rattle.cm_ctx.specs.declared.piece.Piece.{Piece}
-use Rattle.cm_ctx.specs.Naming.{syms_in, syms_of}
+use Rattle.cm_ctx.specs.Naming.{syms_in}
 use Rattle.cm_ctx.proofs.Adding.{at_item}
 use Rattle.cm_ctx.proofs.Names.{here, further, never}
 use Rattle.cm_ctx.proofs.naming.sym_of.Goals as goal

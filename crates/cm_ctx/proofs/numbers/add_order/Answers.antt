@@ -1,5 +1,4 @@
-use Rattle.std.proofs.Common.{◌≡◌, ◌≢◌, ℕ, ℤ, arith, sym, ap, ◌∙◌, subst, ◌↔◌}
-use Rattle.std.proofs.lemmas.Bool.Decides.{nat_tests}
+use Rattle.std.proofs.Common.{◌≡◌}
 use Rattle.cm_term.specs.Atoms.{num_under}
 use Rattle.cm_term.specs.Questions.{order_outcome}
 use Rattle.cm_ctx.proofs.Outcomes.{less_asked, equal_asked, greater_asked, numbers_may, numbers_kept, passed}

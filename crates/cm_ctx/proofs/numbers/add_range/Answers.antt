@@ -1,4 +1,4 @@
-use Rattle.std.proofs.Common.{◌≡◌, ◌≢◌, ◌↔◌, ℕ, ℤ, arith, sym, ap, ◌∙◌, subst}
+use Rattle.std.proofs.Common.{◌≡◌}
 use Rattle.cm_term.specs.Atoms.{num_under}
 use Rattle.cm_term.specs.Questions.{range_outcome}
 use Rattle.cm_ctx.proofs.Outcomes.{below_asked, within_asked, above_asked, numbers_may, numbers_kept, passed_less}

@@ -1,4 +1,4 @@
-use Rattle.std.proofs.Common.{◌≡◌, ℕ, ℤ, pos, ◌+ℤ◌, ◌≤ℤ◌, arith, to_z, of_z, w64, refl}
+use Rattle.std.proofs.Common.{◌+ℤ◌, ◌≤ℤ◌, arith, refl}
 use Rattle.std.proofs.lemmas.Int.{ints}
 use Rattle.cm_ctx.proofs.Outcomes.{passed}
 use Rattle.cm_ctx.proofs.numbers.add_within.Goals as goal

@@ -1,5 +1,4 @@
-use Rattle.std.proofs.Common.{◌≡◌, ◌<◌, length, sym, ap, ◌∙◌}
-use Rattle.cm_ctx.specs.Contexts.{payloads_of}
+use Rattle.std.proofs.Common.{sym, ◌∙◌}
 use Rattle.cm_ctx.proofs.Indexing.{stands_at, stands_within}
 use Rattle.cm_ctx.proofs.asked.Asked.payload.Goals as goal
 

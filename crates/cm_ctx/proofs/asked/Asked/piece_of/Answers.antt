@@ -1,4 +1,4 @@
-use Rattle.std.proofs.Common.{◌≡◌, ◌<◌, length, sym, ap, subst, List, ◌∙◌}
+use Rattle.std.proofs.Common.{◌≡◌, sym, subst, List}
 use Rattle.cm_ctx.specs.declared.piece.Piece.{Piece}
 use Rattle.cm_ctx.specs.Asking.{IsAmong}
 use Rattle.std.proofs.lemmas.Option.{slice_get_within}

@@ -1,4 +1,4 @@
-use Rattle.std.proofs.Common.{◌≡◌, ◌<◌, length, sym, ap, subst, List, ◌∙◌, ℕ, ◌+◌, ◌-◌, arith, slice_index_or}
+use Rattle.std.proofs.Common.{◌≡◌, length, sym, ap, subst, List, ◌∙◌, ℕ, ◌+◌, ◌-◌, arith, slice_index_or}
 use Rattle.std.proofs.Common.{replicate, [], ◌∷◌, ◌++◌}
 use Rattle.cm_ctx.specs.declared.piece.Piece.{Piece}
 use Rattle.cm_ctx.specs.Contexts.{payloads_of}

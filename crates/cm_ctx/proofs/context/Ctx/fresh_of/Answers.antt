@@ -1,7 +1,3 @@
-use Rattle.std.proofs.Common.{◌≡◌, subst, sym, ap}
-use Rattle.cm_ctx.specs.declared.piece.Piece.{Piece}
-use Rattle.cm_ctx.specs.Asking.{IsNew}
-use Rattle.cm_ctx.specs.Grown.{IsFitting}
 use Rattle.cm_ctx.proofs.Ranges.{fitting}
 use Rattle.cm_ctx.proofs.context.Ctx.fresh_of.Goals as goal
 

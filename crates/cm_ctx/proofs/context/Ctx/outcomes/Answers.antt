@@ -1,4 +1,4 @@
-use Rattle.std.proofs.Common.{◌≡◌, ◌↔◌, ℕ, sym, ap, ◌∙◌, subst}
+use Rattle.std.proofs.Common.{◌≡◌}
 use Rattle.cm_term.specs.Questions.{elements_outcome, order_outcome, range_outcome}
 use Rattle.cm_term.specs.Atoms.{tag_under, opt_under}
 use Rattle.cm_ctx.proofs.Outcomes.{same_small}

@@ -1,7 +1,7 @@
-use Rattle.std.proofs.Common.{◌≡◌, ◌<◌, length, Some, slice_get, subst, sym}
+use Rattle.std.proofs.Common.{subst, sym}
 use Rattle.std.proofs.lemmas.Option.{slice_get_within}
 use Rattle.cm_term.specs.declared.term.Term.{Term}
-use Rattle.cm_ctx.specs.Contexts.{Context, context, counts_of, payloads_of}
+use Rattle.cm_ctx.specs.Contexts.{Context, payloads_of}
 use Rattle.cm_ctx.specs.Asking.{IsPayload}
 use Rattle.cm_ctx.proofs.Indexing.{the_same}
 use Rattle.cm_ctx.proofs.Rows.{payload_found}

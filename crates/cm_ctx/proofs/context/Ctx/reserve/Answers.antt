@@ -1,4 +1,4 @@
-use Rattle.std.proofs.Common.{◌≡◌, ◌<◌, Bool, length, ap, sym, subst, ◌∙◌}
+use Rattle.std.proofs.Common.{◌≡◌, length, ap, sym, subst, ◌∙◌}
 use Rattle.cm_ctx.specs.Making.{counts, first_counts}
 use Rattle.cm_ctx.proofs.context.Ctx.reserve.Goals as goal
 use Rattle.cm_ctx.proofs.context.Ctx.reserve.Goals.{After-has_valuation}
@@ -15,6 +15,7 @@ as_many c = ap (λ n. counts n (length c.self.inside.bounds) (length c.self.insi
 pub invariant_of-self : goal.invariant_of-self
 invariant_of-self c = record {
   counts = c.self.invariant.counts ∙ as_many c;
+  sorts = c.reserve-reserved.ensures.sorts ∙ c.self.invariant.sorts;
   elements = c.has_valuation.ensures.satisfiable;
   numbers = c.self.invariant.numbers;
   zero = c.self.invariant.zero;

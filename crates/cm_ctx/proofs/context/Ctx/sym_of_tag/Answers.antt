@@ -1,4 +1,4 @@
-use Rattle.std.proofs.Common.{◌≡◌, ◌<◌, ◌-◌, length, slice_get, Some, subst, sym, arith}
+use Rattle.std.proofs.Common.{◌≡◌, ◌<◌, length, slice_get, Some, subst, sym, arith}
 use Rattle.cm_ctx.specs.declared.naming.Kind.TheVariants as kind
 use Rattle.cm_ctx.specs.Contexts.{Context, context, counts_of}
 use Rattle.cm_ctx.specs.Naming.{syms_of}

@@ -1,7 +1,3 @@
-use Rattle.std.proofs.Common.{◌≡◌, subst, sym, ap}
-use Rattle.cm_sorts.specs.Partition.{Partition}
-use Rattle.cm_ctx.specs.Contexts.{context}
-use Rattle.cm_ctx.specs.Proper.{IsProper}
 use Rattle.cm_ctx.proofs.Starting.{other_spare}
 use Rattle.cm_ctx.proofs.context.Ctx.try_copy.Goals as goal
 
