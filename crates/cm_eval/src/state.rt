@@ -41,7 +41,7 @@ impl State {
     /// The state with these defaults, in the order of the declared states, and these exceptions, of which the first one
     /// of a cell counts.
     pub fn new(defaults: Vals, exceptions: List<Except>) -> State
-        ensures state { result ≡ store defaults.now exceptions.now }
+        ensures state { result ≡ store defaults exceptions }
     {
         State {
             defaults,
