@@ -140,60 +140,70 @@ module _ (t : Tables) (g : Grounds) (ground : IsGround g) where
   )
   on_branch (Ends w) s b o c n (d ∷ ds) sat agree fit = tt
 
-  -- the keys fit, so that the cells are cells of the model
+  -- the keys of the first places fit where the terms of their cells do, so that the cells are cells of the model
   pub places_fit : (tale : PairTale) (s : Story) → Beside t g tale s → (c : Counts) (n : ℕ) (answers : List ℕ)
-      → Satisfies v (after t tale c n answers).facts → TermsFit c n (after t tale c n answers).places
-      → ArePlaces t g (map (cell_under v) (after t tale c n answers).places) (after t tale c n answers).places
-  places_fit (Asks a k) s b c n [] sat fit = tt
-  places_fit (Asks a k) s b c n (d ∷ ds) sat fit =
-      places_fit (k d) (b.0 d) (subst (λ e. Beside t g (k e) (b.0 e)) sat.0 b.3) c n ds sat.1 fit
-  places_fit (Needs p k) s b c n ds sat fit =
-      let x = (made c n p).term in (
+      → Satisfies v (after t tale c n answers).facts → (done rest : List Place)
+      → (after t tale c n answers).places ≡ done ++ rest → TermsFit c n done
+      → ArePlaces t g (map (cell_under v) done) done
+  places_fit (Asks a k) s b c n [] sat [] rest is fit = tt
+  places_fit (Asks a k) s b c n [] sat (r ∷ done) rest is fit = absurd (cc)
+  places_fit (Asks a k) s b c n (d ∷ ds) sat done rest is fit =
+      places_fit (k d) (b.0 d) (subst (λ e. Beside t g (k e) (b.0 e)) sat.0 b.3) c n ds sat.1 done rest is fit
+  places_fit (Needs p k) s b c n ds sat [] rest is fit = tt
+  places_fit (Needs p k) s b c n ds sat (r ∷ done) rest is fit =
+      let x = (made c n p).term in
+      let same : r ≡ p = cc in
+      let later : (after t (k x) (next_counts c n p) (n + 1) ds).places ≡ done ++ rest = cc in
+      let mine = subst (λ z. TermsFit c n (z ∷ done)) same fit in
+      subst (λ z. ArePlaces t g (map (cell_under v) (z ∷ done)) (z ∷ done)) (sym same) (
         (refl, b.0, b.1, subst (λ key. AreKeys (Fits t g) b.0.key key p.key) (key_is b.0.key b.2 p.key b.3) b.3),
         places_fit (k x) (b.4 (value_of v x))
-            (b.6 (value_of v x) x (subst (λ u. Fits t g u (value_of v x) x) (type_is p b.0 b.1) fit.0)) (next_counts c n p)
-            (n + 1) ds sat fit.1,
+            (b.6 (value_of v x) x (subst (λ u. Fits t g u (value_of v x) x) (type_is p b.0 b.1) mine.0))
+            (next_counts c n p) (n + 1) ds sat done rest later mine.1,
       )
-  places_fit (Ends w) s b c n [] sat fit = tt
-  places_fit (Ends w) s b c n (d ∷ ds) sat fit = tt
+  places_fit (Ends w) s b c n [] sat [] rest is fit = tt
+  places_fit (Ends w) s b c n [] sat (r ∷ done) rest is fit = absurd (cc)
+  places_fit (Ends w) s b c n (d ∷ ds) sat [] rest is fit = tt
+  places_fit (Ends w) s b c n (d ∷ ds) sat (r ∷ done) rest is fit = absurd (cc)
 
-  -- and the story touches them one after the other as long as those before agree
+  -- and the story touches them one after the other, and the one behind them, as long as those before agree
   pub touches_next : (tale : PairTale) (s : Story) → Beside t g tale s → (o : Look) (c : Counts) (n : ℕ)
       (answers : List ℕ) → Satisfies v (after t tale c n answers).facts
-      → TermsFit c n (after t tale c n answers).places → (done : List Place) (q : Place) (rest : List Place)
-      → (after t tale c n answers).places ≡ done ++ q ∷ rest → CellsAgree t v o c n done
+      → (done : List Place) (q : Place) (rest : List Place)
+      → (after t tale c n answers).places ≡ done ++ q ∷ rest → TermsFit c n done → CellsAgree t v o c n done
       → (more : List CellName) × (cells_in o s ≡ map (cell_under v) done ++ cell_under v q ∷ more)
-  touches_next (Asks a k) s b o c n [] sat fit [] q rest is agree = absurd (cc)
-  touches_next (Asks a k) s b o c n [] sat fit (r ∷ done) q rest is agree = absurd (cc)
-  touches_next (Asks a k) s b o c n (d ∷ ds) sat fit done q rest is agree =
-      let more = touches_next (k d) (b.0 d) (subst (λ e. Beside t g (k e) (b.0 e)) sat.0 b.3) o c n ds sat.1 fit done q
-      rest is agree in
+  touches_next (Asks a k) s b o c n [] sat [] q rest is fit agree = absurd (cc)
+  touches_next (Asks a k) s b o c n [] sat (r ∷ done) q rest is fit agree = absurd (cc)
+  touches_next (Asks a k) s b o c n (d ∷ ds) sat done q rest is fit agree =
+      let more = touches_next (k d) (b.0 d) (subst (λ e. Beside t g (k e) (b.0 e)) sat.0 b.3) o c n ds sat.1 done q
+      rest is fit agree in
       (more.0, ap (cells_in o) (b.1 ∙ ap (λ e. Asks e b.0) sat.0) ∙ more.1)
-  touches_next (Needs p k) s b o c n ds sat fit [] q rest is agree =
+  touches_next (Needs p k) s b o c n ds sat [] q rest is fit agree =
       let same : p ≡ q = cc in (
         cells_in o (b.4 (o (named p.state b.2))),
         ap (cells_in o) b.5
             ∙ ap (λ d. d ∷ cells_in o (b.4 (o (named p.state b.2)))) (cell_is p b.0 b.2 b.3 ∙ ap (cell_under v) same),
       )
-  touches_next (Needs p k) s b o c n ds sat fit (r ∷ done) q rest is agree =
+  touches_next (Needs p k) s b o c n ds sat (r ∷ done) q rest is fit agree =
       let x = (made c n p).term in
       let same : r ≡ p = cc in
       let later : (after t (k x) (next_counts c n p) (n + 1) ds).places ≡ done ++ q ∷ rest = cc in
       let here : named p.state b.2 ≡ cell_under v p = cell_is p b.0 b.2 b.3 in
       let mine = subst (λ z. CellsAgree t v o c n (z ∷ done)) same agree in
+      let fits = subst (λ z. TermsFit c n (z ∷ done)) same fit in
       let held : o (named p.state b.2) ≡ value_of v x = ap o here ∙ mine.0 in
       let more = touches_next (k x) (b.4 (value_of v x))
-      (b.6 (value_of v x) x (subst (λ u. Fits t g u (value_of v x) x) (type_is p b.0 b.1) fit.0)) o (next_counts c n p)
-      (n + 1) ds sat fit.1 done q rest later mine.1 in (
+      (b.6 (value_of v x) x (subst (λ u. Fits t g u (value_of v x) x) (type_is p b.0 b.1) fits.0)) o (next_counts c n p)
+      (n + 1) ds sat done q rest later fits.1 mine.1 in (
         more.0,
         ap (cells_in o) b.5 ∙ ap (λ y. named p.state b.2 ∷ cells_in o (b.4 y)) held
             ∙ ap (λ d. d ∷ cells_in o (b.4 (value_of v x))) (here ∙ ap (cell_under v) (sym same))
             ∙ ap (λ cs. cell_under v r ∷ cs) more.1,
       )
-  touches_next (Ends w) s b o c n [] sat fit [] q rest is agree = absurd (cc)
-  touches_next (Ends w) s b o c n [] sat fit (r ∷ done) q rest is agree = absurd (cc)
-  touches_next (Ends w) s b o c n (d ∷ ds) sat fit [] q rest is agree = absurd (cc)
-  touches_next (Ends w) s b o c n (d ∷ ds) sat fit (r ∷ done) q rest is agree = absurd (cc)
+  touches_next (Ends w) s b o c n [] sat [] q rest is fit agree = absurd (cc)
+  touches_next (Ends w) s b o c n [] sat (r ∷ done) q rest is fit agree = absurd (cc)
+  touches_next (Ends w) s b o c n (d ∷ ds) sat [] q rest is fit agree = absurd (cc)
+  touches_next (Ends w) s b o c n (d ∷ ds) sat (r ∷ done) q rest is fit agree = absurd (cc)
 
   -- the cells' terms have what the cells hold that the story touches, as far as these are of their states
   abbrev pub Given : Counts → ℕ → List Place → Look → List CellName → Type 0

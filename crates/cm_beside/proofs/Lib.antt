@@ -17,6 +17,7 @@ pub mod Branch
 pub mod Filling
 pub mod Declaring
 pub mod Worlds
+pub mod Least
 pub mod Making
 pub mod Leaves
 pub mod Standing

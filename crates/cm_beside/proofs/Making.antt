@@ -1,17 +1,14 @@
 -- A world whose exceptions are the cells of a node.
-use Rattle.std.proofs.Common.{◌≡◌, ◌+◌, ℕ, true, false, not, List, [], ◌∷◌, ◌++◌, map, length}
+use Rattle.std.proofs.Common.{◌≡◌, ◌+◌, ℕ, true, false, not, List, [], ◌∷◌, ◌++◌, map}
 use Rattle.std.proofs.Common.{slice_get, Option, Some, None, refl, sym, ap, ◌∙◌, subst, append_assoc, if◌then◌else◌}
 use Rattle.std.specs.List.{list_all}
-use Rattle.std.proofs.lemmas.Bool.{and_parts, and_from, false_from_ne_true}
+use Rattle.std.proofs.lemmas.Bool.{and_from, false_from_ne_true}
 use Rattle.cm_model.specs.Tables.{Tables}
-use Rattle.cm_model.specs.WellTyped.{IsWellTyped, is_state, is_key_type}
-use Rattle.cm_model.specs.Types.{is_type_before, is_type_in_use}
+use Rattle.cm_model.specs.WellTyped.{IsWellTyped}
 use Rattle.cm_model.specs.declared.ty.Ty.{Ty}
 use Rattle.cm_model.specs.declared.body.StateDecl.{StateDecl}
 use Rattle.cm_value.specs.declared.value.Value.{Value}
-use Rattle.cm_value.specs.Membership.{is_value_of, are_values_of}
 use Rattle.cm_value.specs.Least.{least_of}
-use Rattle.cm_value.proofs.LeastMember.{least_is_value}
 use Rattle.cm_term.specs.declared.term.Term.{Term}
 use Rattle.cm_term.specs.Valuation.{Valuation}
 use Rattle.cm_term.specs.Terms.{value_of}
@@ -35,6 +32,7 @@ use Rattle.cm_beside.specs.Places.{ArePlaces}
 use Rattle.cm_beside.specs.Nodes.{CellsAgree}
 use Rattle.cm_beside.proofs.Fitting.{member}
 use Rattle.cm_beside.proofs.Branch.{TermsFit}
+use Rattle.cm_beside.proofs.Least.{least_defaults}
 
 abbrev pub excepted : CellName → Value → Except
 excepted c v = record { cell = c; value = v }
@@ -141,21 +139,11 @@ module _ (t : Tables) (typed : IsWellTyped t) (g : Grounds) (ground : IsGround g
   abbrev pub defaults : List Value
   defaults = map (λ (d : StateDecl). least_of t d.value) t.states
 
-  least_values : (ss : List StateDecl) → list_all (is_state t) ss ≡ true
-      → are_values_of t (map (λ (d : StateDecl). d.value) ss) (map (λ (d : StateDecl). least_of t d.value) ss) ≡ true
-  least_values [] h = refl
-  least_values (d ∷ ss) h =
-      let both = and_parts (is_state t d) (list_all (is_state t) ss) h in
-      let used = (and_parts (is_type_in_use t d.value) _ (and_parts (is_key_type t d.key) _ both.0).1).0 in
-      and_from (is_value_of t d.value (least_of t d.value)) _
-      (least_is_value t typed d.value (and_parts (is_type_before t (length t.records) d.value) _ used).0)
-      (least_values ss both.1)
-
   pub state_made : (c : Counts) (n : ℕ) (qs : List Place) → ArePlaces t g (map (cell_under v) qs) qs
       → TermsFit t g ground c n qs → Apart (map (cell_under v) qs)
       → IsStateOf t (store defaults (exceptions t v c n qs))
   state_made c n qs are fit apart = record {
-    defaults = least_values t.states typed.cells;
+    defaults = least_defaults t typed;
     exceptions = all_exceptions c n qs are fit;
     apart = all_apart (exceptions t v c n qs) (subst Apart (sym (cells_of t v c n qs)) apart);
   }

@@ -22,7 +22,7 @@ use Rattle.cm_ctx.specs.declared.piece.TagPart.{TagPart}
 use Rattle.cm_ctx.specs.declared.piece.OptionPart.{OptionPart}
 use Rattle.cm_ctx.specs.declared.piece.Piece.{Piece}
 use Rattle.cm_ctx.specs.Making.{counted, first_counts, piece_of, place}
-use Rattle.cm_ctx.specs.Contexts.{payloads_of, payloads_in}
+use Rattle.cm_ctx.specs.Contexts.{payloads_of, payloads_in, sorts_of}
 use Rattle.cm_ctx.specs.Giving.{EachFrom, Gives, IsWithin, HasPayload}
 use Rattle.cm_ctx.specs.Asking.{InRow}
 use Rattle.cm_ctx.specs.Grown.{IsRange}
@@ -32,7 +32,7 @@ use Rattle.cm_beside.specs.Grounds.{Grounds}
 use Rattle.cm_beside.specs.Fits.{Fits, is_near}
 use Rattle.cm_beside.specs.Related.{IsGround}
 use Rattle.cm_exec.specs.Run.{counted_all, GivesAll}
-use Rattle.cm_beside.specs.Nodes.{pieces_from, sorts_of, grounds_of, IsValuation}
+use Rattle.cm_beside.specs.Nodes.{pieces_from, grounds_of, IsValuation}
 use Rattle.cm_beside.proofs.Fitting.{grows}
 use Rattle.cm_beside.proofs.Near.{tested}
 use Rattle.cm_beside.proofs.Fresh.{AreThere, IsClosed, made_fresh}
@@ -118,6 +118,19 @@ payloads_both [] qs = refl
 payloads_both (p ∷ ps) qs =
     ap (λ ss. payloads_in p.variables.options ++ ss) (payloads_both ps qs)
     ∙ sym (append_assoc (payloads_in p.variables.options) (payloads_of ps) (payloads_of qs))
+
+-- a valuation that gives some pieces values, and others behind them
+pub gives_first : (ps qs : List Piece) (v : Valuation) → GivesAll (ps ++ qs) v → GivesAll ps v
+gives_first [] qs v h = tt
+gives_first (p ∷ ps) qs v h = (h.0, gives_first ps qs v h.1)
+
+pub gives_last : (ps qs : List Piece) (v : Valuation) → GivesAll (ps ++ qs) v → GivesAll qs v
+gives_last [] qs v h = h
+gives_last (p ∷ ps) qs v h = gives_last ps qs v h.1
+
+pub gives_both : (ps qs : List Piece) (v : Valuation) → GivesAll ps v → GivesAll qs v → GivesAll (ps ++ qs) v
+gives_both [] qs v g h = h
+gives_both (p ∷ ps) qs v g h = (g.0, gives_both ps qs v g.1 h)
 
 module _ (t : Tables) (pieces : List Piece) (v : Valuation) (has : Var → Bool) where
   abbrev g : Grounds

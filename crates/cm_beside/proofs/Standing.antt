@@ -21,9 +21,9 @@ use Rattle.cm_exec.specs.Run.{Asked, Telling, piece_at, counted_all, settled_at,
 use Rattle.cm_beside.specs.declared.verdict.Verdict.{Verdict}
 use Rattle.cm_beside.specs.Beside.{PairTale, followed_by, pair_tale}
 use Rattle.cm_beside.specs.Nodes.{args_a, args_b, counts_b, pieces_a, pieces_b, pieces_of, Asking, Ended, node}
-use Rattle.cm_beside.specs.Nodes.{after, node_at, IsNode, Satisfies, fact}
+use Rattle.cm_beside.specs.Nodes.{after, node_at, IsNode, IsValuation, Satisfies, fact}
 use Rattle.cm_beside.specs.Standing.{beyond, StandsAt, SaysAll}
-use Rattle.cm_beside.proofs.Rows.{behind_both}
+use Rattle.cm_beside.proofs.Rows.{behind_both, gives_first}
 
 module _ (t : Tables) (p : Pair) where
   abbrev counts_at : List Place → Counts
@@ -64,8 +64,31 @@ module _ (t : Tables) (p : Pair) where
       → after t (Asks a k) c n (d ∷ more) ≡ beyond (fact a.question d ∷ []) [] (after t (k d) c n more)
   takes a k c n d more = refl
 
+  -- an open question, and the end
+  pub asks : (answers : List ℕ) (facts : List Fact) (places : List Place) (left : List Term → PairTale) (q : Question)
+      → StandsAt t p answers facts places left
+      → ((ps : List Term) → Extends (payloads_of (pieces_of t p places)) ps
+      → after t (left ps) (counts_at places) (length places) [] ≡ node [] [] (Asking q))
+      → IsNode t p answers facts places (Asking q)
+  asks answers facts places left q h head ps extends =
+      sym (ap (node_at t p ps) (append-nil answers)) ∙ h.ahead ps extends []
+      ∙ ap (beyond facts places) (head ps extends)
+      ∙ ap (λ fs. node fs (places ++ []) (Asking q)) (append-nil facts)
+      ∙ ap (λ qs. node facts qs (Asking q)) (append-nil places)
+
+  pub ends : (answers : List ℕ) (facts : List Fact) (places : List Place) (left : List Term → PairTale) (w : Verdict)
+      → StandsAt t p answers facts places left
+      → ((ps : List Term) → Extends (payloads_of (pieces_of t p places)) ps → left ps ≡ Ends w)
+      → IsNode t p answers facts places (Ended w)
+  ends answers facts places left w h head ps extends =
+      sym (ap (node_at t p ps) (append-nil answers)) ∙ h.ahead ps extends []
+      ∙ ap (λ tale. beyond facts places (after t tale (counts_at places) (length places) [])) (head ps extends)
+      ∙ ap (λ fs. node fs (places ++ []) (Ended w)) (append-nil facts)
+      ∙ ap (λ qs. node facts qs (Ended w)) (append-nil places)
+
+module _ (t : Tables) where
   -- where new cells have got their terms, as many as a path may touch
-  settled_beyond : (T : Telling) (K : Term → CellTable → PairTale) (places : List Place) (c : Counts)
+  pub settled_beyond : (T : Telling) (K : Term → CellTable → PairTale) (places : List Place) (c : Counts)
       (made : List Piece) (facts : List Fact) (more : List ℕ)
       → beyond facts places (after t (followed_by T K) c (length places) more)
       ≡ beyond facts (settled t places c made T).places (after t (followed_by (settled t places c made T).rest K)
@@ -108,51 +131,38 @@ module _ (t : Tables) (p : Pair) where
           ∙ later
       by later false = refl
 
-  -- an open question, and the end
-  pub asks : (answers : List ℕ) (facts : List Fact) (places : List Place) (left : List Term → PairTale) (q : Question)
-      → StandsAt t p answers facts places left
-      → ((ps : List Term) → Extends (payloads_of (pieces_of t p places)) ps
-      → after t (left ps) (counts_at places) (length places) [] ≡ node [] [] (Asking q))
-      → IsNode t p answers facts places (Asking q)
-  asks answers facts places left q h head ps extends =
-      sym (ap (node_at t p ps) (append-nil answers)) ∙ h.ahead ps extends []
-      ∙ ap (beyond facts places) (head ps extends)
-      ∙ ap (λ fs. node fs (places ++ []) (Asking q)) (append-nil facts)
-      ∙ ap (λ qs. node facts qs (Asking q)) (append-nil places)
-
-  pub ends : (answers : List ℕ) (facts : List Fact) (places : List Place) (left : List Term → PairTale) (w : Verdict)
-      → StandsAt t p answers facts places left
-      → ((ps : List Term) → Extends (payloads_of (pieces_of t p places)) ps → left ps ≡ Ends w)
-      → IsNode t p answers facts places (Ended w)
-  ends answers facts places left w h head ps extends =
-      sym (ap (node_at t p ps) (append-nil answers)) ∙ h.ahead ps extends []
-      ∙ ap (λ tale. beyond facts places (after t tale (counts_at places) (length places) [])) (head ps extends)
-      ∙ ap (λ fs. node fs (places ++ []) (Ended w)) (append-nil facts)
-      ∙ ap (λ qs. node facts qs (Ended w)) (append-nil places)
-
 -- facts that are kept, and those that need not be
-satisfies_both : (v : Valuation) (fs gs : List Fact) → Satisfies v (fs ++ gs) ↔ (Satisfies v fs × Satisfies v gs)
+pub satisfies_both : (v : Valuation) (fs gs : List Fact) → Satisfies v (fs ++ gs) ↔ (Satisfies v fs × Satisfies v gs)
 satisfies_both v [] gs = ((λ h. (tt, h)), (λ h. h.1))
 satisfies_both v (f ∷ fs) gs =
     let r = satisfies_both v fs gs in
     ((λ h. let s = r.0 h.1 in ((h.0, s.0), s.1)), (λ h. (h.0.0, r.1 (h.0.1, h.1))))
 
-pub says_added : (kept facts : List Fact) (f : Fact) → SaysAll kept facts → SaysAll (kept ++ f ∷ []) (facts ++ f ∷ [])
-says_added kept facts f h = record {
-  says = λ v.
+pub says_added : (pieces : List Piece) (kept facts : List Fact) (f : Fact) → SaysAll pieces kept facts
+    → SaysAll pieces (kept ++ f ∷ []) (facts ++ f ∷ [])
+says_added pieces kept facts f h = record {
+  says = λ v is.
       let a = satisfies_both v kept (f ∷ []) in
       let b = satisfies_both v facts (f ∷ []) in (
-        (λ s. let r = a.0 s in b.1 ((h.says v).0 r.0, r.1)),
-        (λ s. let r = b.0 s in a.1 ((h.says v).1 r.0, r.1)),
+        (λ s. let r = a.0 s in b.1 ((h.says v is).0 r.0, r.1)),
+        (λ s. let r = b.0 s in a.1 ((h.says v is).1 r.0, r.1)),
       );
 }
 
-pub says_forced : (kept facts : List Fact) (f : Fact) → SaysAll kept facts
-    → ((v : Valuation) → Satisfies v facts → IsTold v f) → SaysAll kept (facts ++ f ∷ [])
-says_forced kept facts f h told = record {
-  says = λ v.
+pub says_forced : (pieces : List Piece) (kept facts : List Fact) (f : Fact) → SaysAll pieces kept facts
+    → ((v : Valuation) → IsValuation pieces v → Satisfies v facts → IsTold v f)
+    → SaysAll pieces kept (facts ++ f ∷ [])
+says_forced pieces kept facts f h told = record {
+  says = λ v is.
       let b = satisfies_both v facts (f ∷ []) in (
-        (λ s. let r = (h.says v).0 s in b.1 (r, (told v r, tt))),
-        (λ s. (h.says v).1 (b.0 s).0),
+        (λ s. let r = (h.says v is).0 s in b.1 (r, (told v is r, tt))),
+        (λ s. (h.says v is).1 (b.0 s).0),
       );
+}
+
+-- where more pieces are made
+pub says_still : (pieces more : List Piece) (kept facts : List Fact) → SaysAll pieces kept facts
+    → SaysAll (pieces ++ more) kept facts
+says_still pieces more kept facts h = record {
+  says = λ v is. h.says v (record { zero = is.zero; given = gives_first pieces more v is.given });
 }

@@ -55,7 +55,7 @@ use Rattle.cm_exec.specs.Run.{pieces_for, counted_all, GivesAll}
 use Rattle.cm_beside.specs.Nodes.{pieces_from, types_of, parameter_types, pieces_a, pieces_b, counts_a}
 use Rattle.cm_beside.specs.Nodes.{counts_b, args_a, args_b, pieces_of, Next, node, node_at, IsNode}
 use Rattle.cm_beside.specs.Nodes.{IsValuation, Satisfies, CellsAgree, WorldSatisfies, grounds_of}
-use Rattle.cm_beside.proofs.Rows.{behind_both, row_both, row_from, ground, row_fits, one_fits}
+use Rattle.cm_beside.proofs.Rows.{gives_first, gives_last, gives_both, behind_both, row_both, row_from, ground, row_fits, one_fits}
 use Rattle.cm_beside.proofs.Fresh.{IsClosed}
 use Rattle.cm_beside.proofs.Filling.{terms_of, TypedRow, typed_from, row_kept, filled, no_more}
 use Rattle.cm_beside.proofs.Declaring.{IsDeclared}
@@ -85,7 +85,7 @@ module _ (t : Tables) (typed : IsWellTyped t) (p : Pair) (a b : Call) (at_a : sl
       let both_ = and_parts (is_type_in_use t u) (list_all (is_type_in_use t) us) h in
       ((and_parts (is_type_before t (length t.records) u) _ both_.0).0, in_use us both_.1)
 
-  parameters : (c : Call) (i : ℕ) → slice_get t.calls i ≡ Some c → AllByRecursion (IsType t) (map (λ q. q.ty) c.params)
+  pub parameters : (c : Call) (i : ℕ) → slice_get t.calls i ≡ Some c → AllByRecursion (IsType t) (map (λ q. q.ty) c.params)
   parameters c i at =
       let whole = all_at (is_call t (length t.funs)) t.calls i c typed.bodies at in
       in_use (map (λ q. q.ty) c.params)
@@ -150,14 +150,6 @@ module _ (t : Tables) (typed : IsWellTyped t) (p : Pair) (a b : Call) (at_a : sl
   all_both P [] ys h k = k
   all_both P (x ∷ xs) ys h k = (h.0, all_both P xs ys h.1 k)
 
-  given_both : (xs ys : List Piece) (v : Valuation) → GivesAll xs v → GivesAll ys v → GivesAll (xs ++ ys) v
-  given_both [] ys v h k = k
-  given_both (x ∷ xs) ys v h k = (h.0, given_both xs ys v h.1 k)
-
-  given_split : (xs ys : List Piece) (v : Valuation) → GivesAll (xs ++ ys) v → GivesAll xs v × GivesAll ys v
-  given_split [] ys v h = (tt, h)
-  given_split (x ∷ xs) ys v h = let r = given_split xs ys v h.1 in ((h.0, r.0), r.1)
-
   near : AllByRecursion Near pieces
   near = all_both Near (pieces_a t p) _ (near_from root.A 0 (types_of t p.a) first_counts)
       (all_both Near (pieces_b t p) _ (near_from root.B 0 (types_of t p.b) (counts_a t p))
@@ -176,9 +168,8 @@ module _ (t : Tables) (typed : IsWellTyped t) (p : Pair) (a b : Call) (at_a : sl
     given_parts : GivesAll (pieces_a t p) v × GivesAll (pieces_b t p) v
         × GivesAll (pieces_for t (counts_b t p) 0 places) v
     given_parts =
-        let one = given_split (pieces_a t p) _ v is.given in
-        let two = given_split (pieces_b t p) _ v one.1 in
-        (one.0, two.0, two.1)
+        let rest = gives_last (pieces_a t p) _ v is.given in
+        (gives_first (pieces_a t p) _ v is.given, gives_first (pieces_b t p) _ v rest, gives_last (pieces_b t p) _ v rest)
 
     have_terms : (qs : List Piece) → AllByRecursion (λ (q : Piece). AllByRecursion (λ x. Every x ≡ true) (vars_of q.term)) qs
     have_terms [] = tt
@@ -289,7 +280,7 @@ module _ (t : Tables) (typed : IsWellTyped t) (p : Pair) (a b : Call) (at_a : sl
         v = three.0;
         is = record {
           zero = sym (first_later.numbers 0 (omega arith));
-          given = given_both (pieces_a t p) _ three.0 a_kept.0 (given_both (pieces_b t p) _ three.0 b_kept.0 three.2);
+          given = gives_both (pieces_a t p) _ three.0 a_kept.0 (gives_both (pieces_b t p) _ three.0 b_kept.0 three.2);
         };
         a_is = a_kept.1 ∙ one.3;
         b_is = b_kept.1 ∙ two.3;

@@ -5,12 +5,15 @@ use Rattle.cm_model.specs.Tables.{Tables}
 use Rattle.cm_model.specs.declared.pair.Pair.{Pair}
 use Rattle.cm_term.specs.declared.question.Question.{Question}
 use Rattle.cm_term.specs.declared.question.Fact.{Fact}
+use Rattle.cm_term.specs.declared.term.Term.{Term}
 use Rattle.cm_term.specs.Valuation.{Valuation, Var}
 use Rattle.cm_term.specs.Questions.{outcome_under, AreEqual}
 use Rattle.cm_eval.specs.declared.log.CellName.{CellName}
 use Rattle.cm_eval.specs.declared.state.Except.{Except}
 use Rattle.cm_cells.specs.CellTable.{Place}
 use Rattle.cm_cells.specs.Alike.{cell_under}
+use Rattle.cm_ctx.specs.Contexts.{payloads_of}
+use Rattle.cm_exec.specs.Comparing.{Extends}
 use Rattle.cm_world.specs.declared.world.World.{World}
 use Rattle.cm_world.specs.World.{IsWorldOf}
 use Rattle.cm_world.specs.Order.{touched_cells}
@@ -20,7 +23,7 @@ use Rattle.cm_world.specs.OpenPrefix.{BeginsAPath}
 use Rattle.cm_beside.specs.declared.verdict.Verdict.{Verdict}
 use Rattle.cm_beside.specs.declared.verdict.Verdict.TheVariants as verdict
 use Rattle.cm_beside.specs.Related.{is_question}
-use Rattle.cm_beside.specs.Nodes.{pieces_of, IsValuation, Satisfies, Agrees, WorldSatisfies, grounds_of}
+use Rattle.cm_beside.specs.Nodes.{Next, node, node_at, pieces_of, IsValuation, Satisfies, Agrees, WorldSatisfies, grounds_of}
 
 abbrev pub StartsWith : List ℕ → List ℕ → Type 0
 StartsWith path front = (rest : List ℕ) × (path ≡ front ++ rest)
@@ -35,6 +38,12 @@ pub record IsValuationOf (t : Tables) (p : Pair) (v : Valuation) (places : List 
   pub agrees : Agrees t p v w places
   pub exceptions : exceptions_of w ≡ map (cell_under v) places
 
+-- after the answers these are the facts and the cells, and a further cell is touched
+abbrev pub TouchesMore : Tables → Pair → List ℕ → List Fact → List Place → Type 0
+TouchesMore t p answers facts places =
+    (ps : List Term) → Extends (payloads_of (pieces_of t p places)) ps
+    → (q : Place) × (more : List Place) × (next : Next) × (node_at t p ps answers ≡ node facts (places ++ q ∷ more) next)
+
 -- a verdict under a valuation
 abbrev pub IsSo : Valuation → Verdict → Type 0
 IsSo v verdict.Never = ⊥
@@ -48,6 +57,8 @@ module _ (t : Tables) (p : Pair) where
   pub record IsRightLeaf (path : List ℕ) (facts : List Fact) (places : List Place) (w : Verdict) : Type 0 where
     -- a world has the path exactly where it satisfies the facts, with the cells' keys valued in order
     pub has_path : (u : World) → IsWorldOf t p u → (path_of_world t p u ≡ path) ↔ WorldSatisfies t p u facts places
+    -- no path goes on from it
+    pub ends : (u : World) → IsWorldOf t p u → StartsWith (path_of_world t p u) path → path_of_world t p u ≡ path
     -- such a world has the leaf's touched cells, and it commutes exactly by the verdict
     pub touches : (u : World) (v : Valuation) → IsWorldOf t p u → IsValuation (pieces_of t p places) v
         → Agrees t p v u places → Satisfies v facts → touched_cells t p u ≡ map (cell_under v) places

@@ -16,10 +16,9 @@ use Rattle.cm_term.specs.Questions.{IsTold}
 use Rattle.cm_cells.specs.CellTable.{Place}
 use Rattle.cm_cells.specs.Alike.{cell_under}
 use Rattle.cm_ctx.specs.declared.piece.Counts.{Counts}
-use Rattle.cm_ctx.specs.declared.piece.ElementPart.{ElementPart}
 use Rattle.cm_ctx.specs.declared.piece.Piece.{Piece}
 use Rattle.cm_ctx.specs.Making.{counted, first_counts, piece_of}
-use Rattle.cm_ctx.specs.Contexts.{payloads_of}
+use Rattle.cm_ctx.specs.Contexts.{payloads_of, sorts_of}
 use Rattle.cm_world.specs.declared.world.World.{World}
 use Rattle.cm_story.specs.Tale.{Asks, Needs, Ends}
 use Rattle.cm_exec.specs.Run.{piece_at, pieces_for, counted_all, GivesAll}
@@ -136,11 +135,6 @@ pub record WorldSatisfies (t : Tables) (p : Pair) (w : World) (facts : List Fact
   pub is_valuation : IsValuation (pieces_of t p places) valuation
   pub agrees : Agrees t p valuation w places
   pub satisfies : Satisfies valuation facts
-
--- the sorts of the variables of elements, in order
-abbrev pub sorts_of : List Piece → List ℕ
-sorts_of [] = []
-sorts_of (p ∷ ps) = map (λ (d : ElementPart). d.sort) p.variables.elements ++ sorts_of ps
 
 -- what a run stands on where these were made
 abbrev pub grounds_of : List Piece → Valuation → (Var → Bool) → Grounds

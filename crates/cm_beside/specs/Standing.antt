@@ -6,12 +6,13 @@ use Rattle.cm_term.specs.declared.question.Fact.{Fact}
 use Rattle.cm_term.specs.declared.term.Term.{Term}
 use Rattle.cm_term.specs.Valuation.{Valuation}
 use Rattle.cm_cells.specs.CellTable.{Place}
+use Rattle.cm_ctx.specs.declared.piece.Piece.{Piece}
 use Rattle.cm_ctx.specs.Making.{first_counts}
 use Rattle.cm_ctx.specs.Contexts.{payloads_of}
 use Rattle.cm_exec.specs.Run.{counted_all}
 use Rattle.cm_exec.specs.Comparing.{Extends}
 use Rattle.cm_beside.specs.Beside.{PairTale}
-use Rattle.cm_beside.specs.Nodes.{pieces_of, Node, node, after, node_at, Satisfies}
+use Rattle.cm_beside.specs.Nodes.{pieces_of, Node, node, after, node_at, Satisfies, IsValuation}
 
 -- a node with these facts and cells before its own
 abbrev pub beyond : List Fact → List Place → Node → Node
@@ -25,6 +26,7 @@ pub record StandsAt (t : Tables) (p : Pair) (answers : List ℕ) (facts : List F
       → node_at t p ps (answers ++ more)
       ≡ beyond facts places (after t (left ps) (counted_all first_counts (pieces_of t p places)) (length places) more)
 
--- the kept facts say all that the facts say: those with one possible outcome need not be kept
-pub record SaysAll (kept facts : List Fact) : Type 0 where
-  pub says : (v : Valuation) → Satisfies v kept ↔ Satisfies v facts
+-- of valuations that give the pieces values, the kept facts say all that the facts say: those with one possible outcome
+-- need not be kept
+pub record SaysAll (pieces : List Piece) (kept facts : List Fact) : Type 0 where
+  pub says : (v : Valuation) → IsValuation pieces v → Satisfies v kept ↔ Satisfies v facts
