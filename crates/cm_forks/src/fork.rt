@@ -1,6 +1,6 @@
 //! One decision, and the outcomes that are left at a fork.
 
-ghost use Rattle.std.specs.Prelude.{◌≡◌, ◌≤◌, ◌<◌, ◌+◌, ◌^◌, ◌∷◌, ◌++◌, [], ℕ, List, length};
+ghost use Rattle.std.specs.Prelude.{◌≡◌, ◌≢◌, ◌≤◌, ◌<◌, ◌+◌, ◌^◌, ◌∷◌, ◌++◌, [], ℕ, List, length};
 ghost use Rattle.std.specs.Prelude.{OnOk, OnErr, IfSome, IfNone, Some};
 ghost use Rattle.cm_forks.specs.Paths.{Begins};
 ghost use Rattle.cm_forks.specs.inner.Stack.{Ready, Same, Remains, Kept};
@@ -61,6 +61,7 @@ pub fn branch<N: Node, L: Ledger>(
     requires waits { N.waits node.old }
     requires all_wait { AllWait N.waits N.about (N.about node.old) stack.old.items }
     requires begins { Begins (N.has_path (N.about node.old)) (N.prefix node.old ++ from ∷ []) }
+    requires several { (d : ℕ) × (d ≢ from) × Begins (N.has_path (N.about node.old)) (N.prefix node.old ++ d ∷ []) }
     requires room { added.old + 1 < 2 ^ 64 }
     ensures about { OnOk result (N.about node.new ≡ N.about node.old) }
     ensures kept { OnOk result (Kept (fork (N.prefix node.old) mask.0 from)

@@ -1,6 +1,6 @@
 //! What the enumeration asks of a place between decisions.
 
-ghost use Rattle.std.specs.Prelude.{◌≡◌, ◌+◌, ◌∷◌, ◌++◌, [], ℕ, List, length, IfOk, OnOk, OnErr};
+ghost use Rattle.std.specs.Prelude.{◌≡◌, ◌≢◌, ◌+◌, ◌∷◌, ◌++◌, [], ℕ, List, length, IfOk, OnOk, OnErr};
 ghost use Rattle.cm_forks.specs.Paths.{Begins, Covers, Ends};
 
 use cm_ctx::{Mask, Steps};
@@ -90,6 +90,8 @@ pub trait Node: Drop {
     fn add<L: Ledger>(&mut self, outcome: u8, steps: &mut Steps<L>) -> Result<(), NoMemory>
         requires waits { waits self.old }
         requires begins { Begins (has_path (about self.old)) (prefix self.old ++ outcome ∷ []) }
+        requires several { (d : ℕ) × (d ≢ outcome)
+            × Begins (has_path (about self.old)) (prefix self.old ++ d ∷ []) }
         ensures about { about self.new ≡ about self.old }
         ensures prefix { OnOk result (prefix self.new ≡ prefix self.old ++ outcome ∷ []) }
         ensures fresh { OnOk result (fresh self.new) }

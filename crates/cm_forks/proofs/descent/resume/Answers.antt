@@ -11,6 +11,10 @@ pub branch-node-requires-clause-begins : goal.branch-node-requires-clause-begins
 branch-node-requires-clause-begins g c =
     (top_live (g.N.Node.has_path (g.N.Node.about c.args.pending.node)) _ _ _ c.requires.ready).begins
 
+pub branch-node-requires-clause-several : goal.branch-node-requires-clause-several
+branch-node-requires-clause-several g c =
+    (top_live (g.N.Node.has_path (g.N.Node.about c.args.pending.node)) _ _ _ c.requires.ready).other
+
 pub returns-in_err-branch-clause-are_open : goal.returns-in_err-branch-clause-are_open
 returns-in_err-branch-clause-are_open g c = on_err c.from_residual.result _ (rw c.in_err-branch.ensures.not_added
     (open_now (g.N.Node.has_path (g.N.Node.about c.args.pending.node)) _ _ _ c.requires.ready))

@@ -25,6 +25,15 @@ follow-requires-clause-alone g c = λ x begins.
     only c.outcomes-mask.result.0 c.in-Some.outcome c.in-Some.ensures.found.2 c.in-None-least.ensures.none x
     ((c.outcomes-mask.ensures.covers x).1 begins)
 
+pub branch-node-requires-clause-several : goal.branch-node-requires-clause-several
+branch-node-requires-clause-several g c =
+    let next = c.in-Some-least.field-0 in
+    let above = c.in-Some-least.ensures.found.0 in (
+      next,
+      (λ same. omega (arith, above, same)),
+      (c.outcomes-mask.ensures.covers next).0 c.in-Some-least.ensures.found.1,
+    )
+
 one : (g : Over) (c : After-follow g) → OnOk c.follow.result (goes
     (g.N.Node.has_path (g.N.Node.about c.args.node.now))
     (g.N.Node.prefix c.args.node.now) (forks g.N.Node.prefix c.args.stack.now.items)
