@@ -45,7 +45,7 @@ use Rattle.cm_beside.specs.Places.{ArePlaces}
 use Rattle.cm_beside.specs.Beside.{PairTale, pair_tale, Beside, Judges}
 use Rattle.cm_beside.specs.Nodes.{args_a, args_b, counts_b, pieces_of, Next, Asking, Ended, node, node_at}
 use Rattle.cm_beside.specs.Nodes.{IsNode, IsValuation, Satisfies, CellsAgree, Agrees, WorldSatisfies}
-use Rattle.cm_beside.specs.Leaf.{StartsWith, IsValuationOf, IsSo, IsRightLeaf, IsRightNode}
+use Rattle.cm_beside.specs.Leaf.{StartsWith, IsValuationOf, IsSo, AreNeeded, IsRightLeaf, IsRightNode}
 use Rattle.cm_beside.proofs.Fitting.{member}
 use Rattle.cm_beside.proofs.Declaring.{IsDeclared, places_declared, pair_needs}
 use Rattle.cm_beside.proofs.Branch.{TermsFit, Comes, on_branch, places_fit, touches_next}
@@ -228,6 +228,10 @@ module _ (t : Tables) (typed : IsWellTyped t) (p : Pair) (a b : Call) (at_a : sl
   made_world : (v : Valuation) → IsValuation pieces_ v → Satisfies v facts → (u : World) × IsValuationOf t p v places u
   made_world = valued t typed p a b at_a at_b answers facts places [] next at_node_
 
+  keyed_here : (v : Valuation) (is : IsValuation pieces_ v) (sat : Satisfies v facts)
+      → ArePlaces t (g_ v is sat) (map (cell_under v) places) places
+  keyed_here = are_places t typed p a b at_a at_b answers facts places [] next at_node_
+
   from : (u : World) → IsWorldOf t p u → (rest : List ℕ) → path_of_world t p u ≡ answers ++ rest
       → WorldSatisfies t p u facts places
   from u world rest begins =
@@ -247,6 +251,11 @@ module _ (t : Tables) (typed : IsWellTyped t) (p : Pair) (a b : Call) (at_a : sl
     judged v is sat verdict.Never c h = ((λ so. let f : false ≡ true = sym h ∙ so in cc), (λ no_. absurd no_))
     judged v is sat (verdict.If es) c h = h.0
 
+    needed_of : (v : Valuation) (is : IsValuation pieces_ v) (sat : Satisfies v facts) (z : Verdict) (c : Bool)
+        → Judges t (g_ v is sat) z c → AreNeeded t (g_ v is sat) z
+    needed_of v is sat verdict.Never c h = tt
+    needed_of v is sat (verdict.If es) c h = h.1
+
     pub right_leaf : IsRightLeaf t p answers facts places w
     right_leaf = record {
       has_path = λ u world. (
@@ -262,6 +271,9 @@ module _ (t : Tables) (typed : IsWellTyped t) (p : Pair) (a b : Call) (at_a : sl
           let commuting = commutes_told t typed p u world in
           ((λ c. so.0 (commuting.0 c)), (λ s. commuting.1 (so.1 s)));
       valued = made_world;
+      needed = λ v is sat.
+          let u = made_world v is sat in needed_of v is sat w _ (ended v is sat u.0 u.1.agrees).2;
+      keyed = keyed_here;
     }
 
   -- an open question
@@ -295,6 +307,7 @@ module _ (t : Tables) (typed : IsWellTyped t) (p : Pair) (a b : Call) (at_a : sl
           let h = asked v is sat u agrees in (h.1.0, cells_told t typed p u world ∙ h.1.1);
       valued = made_world;
       asked = λ v is sat. let u = made_world v is sat in (asked v is sat u.0 u.1.agrees).2;
+      keyed = keyed_here;
       covers = λ d. (
         (λ begins.
             let u = begins.path.world in

@@ -22,7 +22,10 @@ use Rattle.cm_world.specs.Commuting.{Commutes}
 use Rattle.cm_world.specs.OpenPrefix.{BeginsAPath}
 use Rattle.cm_beside.specs.declared.verdict.Verdict.{Verdict}
 use Rattle.cm_beside.specs.declared.verdict.Verdict.TheVariants as verdict
+use Rattle.cm_beside.specs.Grounds.{Grounds}
+use Rattle.cm_beside.specs.Places.{ArePlaces}
 use Rattle.cm_beside.specs.Related.{is_question}
+use Rattle.cm_beside.specs.Beside.{IsGood}
 use Rattle.cm_beside.specs.Nodes.{Next, node, node_at, pieces_of, IsValuation, Satisfies, Agrees, WorldSatisfies, grounds_of}
 
 abbrev pub StartsWith : List ℕ → List ℕ → Type 0
@@ -49,6 +52,11 @@ abbrev pub IsSo : Valuation → Verdict → Type 0
 IsSo v verdict.Never = ⊥
 IsSo v (verdict.If es) = AllByRecursion (AreEqual v) es
 
+-- each listed equality could be asked: its variables are there, of one sort where they are elements, its numbers small
+abbrev pub AreNeeded : Tables → Grounds → Verdict → Type 0
+AreNeeded t g verdict.Never = Unit {0}
+AreNeeded t g (verdict.If es) = AllByRecursion (IsGood t g) es
+
 -- whichever symbols have values
 abbrev pub every : Var → Bool
 every x = true
@@ -67,6 +75,11 @@ module _ (t : Tables) (p : Pair) where
     -- each valuation that satisfies the facts is that of such a world
     pub valued : (v : Valuation) → IsValuation (pieces_of t p places) v → Satisfies v facts
         → (u : World) × IsValuationOf t p v places u
+    -- the verdict's equalities could be asked, and the cells' keys have values of their types
+    pub needed : (v : Valuation) → IsValuation (pieces_of t p places) v → Satisfies v facts
+        → AreNeeded t (grounds_of (pieces_of t p places) v every) w
+    pub keyed : (v : Valuation) → IsValuation (pieces_of t p places) v → Satisfies v facts
+        → ArePlaces t (grounds_of (pieces_of t p places) v every) (map (cell_under v) places) places
 
   -- the same of a beginning of a path at which a question is open
   pub record IsRightNode (front : List ℕ) (facts : List Fact) (places : List Place) (q : Question) : Type 0 where
@@ -85,6 +98,8 @@ module _ (t : Tables) (p : Pair) where
     -- the question is on variables that are there, and its numbers are small
     pub asked : (v : Valuation) → IsValuation (pieces_of t p places) v → Satisfies v facts
         → IsTrue (is_question t (grounds_of (pieces_of t p places) v every) q)
+    pub keyed : (v : Valuation) → IsValuation (pieces_of t p places) v → Satisfies v facts
+        → ArePlaces t (grounds_of (pieces_of t p places) v every) (map (cell_under v) places) places
     -- its possible outcomes are those with which some path goes on
     pub covers : (d : ℕ) → BeginsAPath t p (front ++ d ∷ [])
         ↔ ((v : Valuation) × IsValuation (pieces_of t p places) v × Satisfies v facts × (outcome_under v q ≡ d))
