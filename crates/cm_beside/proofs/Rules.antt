@@ -1,10 +1,11 @@
 -- Each operation of the rules on terms does what it does on values: it keeps the relation of the two.
 use Rattle.std.proofs.Common.{◌≡◌, ◌<◌, ◌≤◌, ℕ, zero, suc, ◌==◌, ltb, ℤ, pos, neg_ℤ, ◌+ℤ◌, int_le}
-use Rattle.std.proofs.Common.{Bool, true, false, ◌&&◌, List, [], ◌∷◌, map, length, slice_get, slice_set, Option, Some}
+use Rattle.std.proofs.Common.{Bool, true, false, ◌&&◌, ◌||◌, List, [], ◌∷◌, map, length, slice_get, slice_set, Option, Some}
 use Rattle.std.proofs.Common.{None, IsTrue, refl, sym, ap, ◌∙◌, subst, arith, if◌then◌else◌}
 use Rattle.std.specs.Prelude.{option_map}
 use Rattle.std.specs.Ordering.{int_eq}
 use Rattle.std.proofs.lemmas.Bool.{and_parts, and_from, eqb-true, eq-eqb, ltb-true, lt-ltb}
+use Rattle.std.proofs.Math.Bool.{or-true}
 use Rattle.std.proofs.lemmas.Bool.Decides.{Decides-int_eq}
 use Rattle.std.proofs.lemmas.Int.{ints}
 use Rattle.cm_model.specs.Limits.{number_limit, shift_limit}
@@ -62,7 +63,7 @@ use Rattle.cm_relation.specs.Relation.{Relation, KeepRelation, IfBoth, AreAll}
 use Rattle.cm_beside.specs.Grounds.{Grounds}
 use Rattle.cm_beside.specs.Fits.{Fitting, Fits, is_number, is_choice, is_num, all_fit, is_record, is_none, is_some}
 use Rattle.cm_beside.specs.Fits.{fields_fit, value_offset_limit, is_near}
-use Rattle.cm_beside.specs.Related.{Related, FitsOperand, is_numeral, operand_limit, asked_limit, IsGround}
+use Rattle.cm_beside.specs.Related.{Related, FitsOperand, has_ends, is_numeral, operand_limit, asked_limit, IsGround}
 use Rattle.cm_beside.proofs.Layers.{fitting, at_int, at_enum, at_record, AtRecord}
 use Rattle.cm_beside.proofs.Fitting.{fit_int, fit_tag, fit_rec, fit_none, fit_some, decided}
 use Rattle.cm_beside.proofs.Options.{OptionAt, IsNone, IsSome, option_at}
@@ -72,6 +73,17 @@ use Rattle.cm_beside.proofs.Questions.{few_variants, variant_asked, number_asked
 
 some_same : {X : Type 0} (x y : X) → Some x ≡ Some y → x ≡ y
 some_same x y h = cc
+
+int_same : (a : ℤ) → int_eq a a ≡ true
+int_same a = grind (arith, ints)
+
+ends_there : (ds : List IntDecl) (i : ℕ) (d : IntDecl) → slice_get ds i ≡ Some d → has_ends ds d.lo d.hi ≡ true
+ends_there [] i d at = absurd (cc)
+ends_there (e ∷ ds) zero d at =
+    let same : e ≡ d = some_same e d at in
+    rw same (ap (λ b. b || has_ends ds d.lo d.hi) (and_from _ _ (int_same d.lo) (int_same d.hi)))
+ends_there (e ∷ ds) (suc i) d at =
+    ap (λ b. (int_eq e.lo d.lo && int_eq e.hi d.hi) || b) (ends_there ds i d at) ∙ or-true _
 
 pub out_tag_term : (a : Tag) → out-Term (term.Tag a) ≡ Term-F.Tag a
 out_tag_term a = ap out-Term (sym (term.rolls-Tag a)) ∙ out-roll-Term (Term-F.Tag a)
@@ -543,7 +555,7 @@ module _ (t : Tables) (typed : IsWellTyped t) (g : Grounds) (ground : IsGround g
       (decides t typed g Q (question.Range a.a d.lo d.hi) (placed d.lo d.hi a.m)
       (ap (placed d.lo d.hi) (sym a.same))
       (and_from _ _ (asks_small n a.a le a.is_num_)
-      (and_from _ _ (and_parts _ _ ends.0).0 (and_from _ _ (and_parts _ _ ends.0).1 ends.1)))
+      (and_from _ _ (and_parts _ _ ends.0).0 (and_from _ _ (and_parts _ _ ends.0).1 (and_from _ _ ends.1 (ends_there t.ints i d at)))))
       (λ c. if c == 1 then k (value.Int a.m) else Blocks) (λ c. if c == 1 then l (term.Num a.a) g.payloads else Blocks)
       (by a.m a.a a.same a.is_num_ range (placed d.lo d.hi a.m == 1) refl))
     where

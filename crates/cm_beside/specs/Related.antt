@@ -1,11 +1,12 @@
 -- What a call does on values beside what it does on terms.
-use Rattle.std.specs.Prelude.{◌≡◌, ◌<◌, ◌+◌, ◌*◌, ◌==◌, ltb, int_le, ℕ, ℤ, Bool, true, false, ◌&&◌, slice_get}
-use Rattle.std.specs.Prelude.{Option, Some, IsTrue}
+use Rattle.std.specs.Prelude.{◌≡◌, ◌<◌, ◌+◌, ◌*◌, ◌==◌, ltb, int_le, ℕ, ℤ, Bool, true, false, ◌&&◌, ◌||◌}
+use Rattle.std.specs.Prelude.{List, [], ◌∷◌, slice_get, Option, Some, IsTrue}
 use Rattle.std.specs.Ordering.{int_eq}
 use Rattle.cm_model.specs.Limits.{number_limit, variant_limit}
 use Rattle.cm_model.specs.Tables.{Tables}
 use Rattle.cm_model.specs.Kinds.{Kind, Number, Of}
 use Rattle.cm_model.specs.declared.body.StateDecl.{StateDecl}
+use Rattle.cm_model.specs.declared.ty.IntDecl.{IntDecl}
 use Rattle.cm_value.specs.declared.value.Value.{Value}
 use Rattle.cm_eval.specs.Script.{Replies, Blocks, Decides, Reads, Writes}
 use Rattle.cm_eval.specs.Evaluation as evaluation
@@ -44,6 +45,11 @@ abbrev pub are_one_sort : Option ℕ → Option ℕ → Bool
 are_one_sort (Some s) (Some r) = s == r
 are_one_sort _ _ = false
 
+-- the two ends of an integer type
+abbrev pub has_ends : List IntDecl → ℤ → ℤ → Bool
+has_ends [] lo hi = false
+has_ends (d ∷ ds) lo hi = (int_eq d.lo lo && int_eq d.hi hi) || has_ends ds lo hi
+
 module _ (t : Tables) (g : Grounds) where
   abbrev pub is_opt : Opt → Bool
   is_opt opt.None = true
@@ -54,13 +60,14 @@ module _ (t : Tables) (g : Grounds) where
   is_variant (tag.Const e i) = ltb i variant_limit
   is_variant (tag.Var x) = true
 
-  -- a question on variables that are there, whose symbols have values; its numbers are small
+  -- a question on variables that are there, whose symbols have values; its numbers are small, and a range is an integer
+  -- type's
   abbrev pub is_question : Question → Bool
   is_question (question.Elems x y) =
       are_one_sort (slice_get g.sorts x.0) (slice_get g.sorts y.0) && (g.has (OfElement x.0) && g.has (OfElement y.0))
   is_question (question.Nums a b) = is_num t g asked_limit a && is_num t g asked_limit b
   is_question (question.Range a lo hi) =
-      is_num t g asked_limit a && (is_near number_limit lo && (is_near number_limit hi && int_le lo hi))
+      is_num t g asked_limit a && (is_near number_limit lo && (is_near number_limit hi && (int_le lo hi && has_ends t.ints lo hi)))
   is_question (question.TagOf a) = is_tag t g a && is_variant a
   is_question (question.OptOf a) = is_opt a
 
