@@ -1,0 +1,9 @@
+pub mod Asked
+pub mod Growing
+pub mod Steps
+pub mod Sets
+pub mod Opened
+pub mod AskedFor
+pub mod Beginning
+pub mod Going
+pub mod Walks
