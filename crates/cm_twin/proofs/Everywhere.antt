@@ -341,7 +341,7 @@ module _ (t : Tables) (names : Names) (undoes : Undoes names) where
 swapped_twice : (x y n : ℕ) → swapped x y (swapped x y n) ≡ n
 swapped_twice x y n = grind (arith, nat_tests)
 
-exchange_undoes : (by : Swap) → Undoes (exchanged by)
+pub exchange_undoes : (by : Swap) → Undoes (exchanged by)
 exchange_undoes by s n = twice (s == by.sort)
   where
     twice : (b : Bool) → (if b then swapped by.x by.y (if b then swapped by.x by.y n else n)

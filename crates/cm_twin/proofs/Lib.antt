@@ -9,3 +9,4 @@ pub mod Undone
 pub mod Own
 pub mod Shapes
 pub mod Numbers
+pub mod Building

@@ -1,5 +1,5 @@
 -- A world and its twin, which has other names for the elements of the first, and what the two have in common.
-use Rattle.std.specs.Prelude.{◌≡◌, ◌↔◌, ℕ, List, [], ◌∷◌, map, slice_get, Option, Some, None}
+use Rattle.std.specs.Prelude.{◌≡◌, ◌↔◌, ℕ, List, [], ◌∷◌, map, slice_get, Option, Some, None, option_map}
 use Rattle.cm_model.specs.Tables.{Tables}
 use Rattle.cm_model.specs.declared.body.Call.{Call}
 use Rattle.cm_model.specs.declared.pair.Pair.{Pair}
@@ -63,6 +63,22 @@ pub record IsRenamed (t : Tables) (p : Pair) (f : Naming) (w u : World) : Type 0
 -- the second world is the first with two elements of a sort exchanged everywhere
 abbrev pub IsRelabelled : Tables → Pair → Swap → World → World → Type 0
 IsRelabelled t p by = IsRenamed t p (exchange by)
+
+-- it is there
+abbrev pub world_named : Tables → Pair → Naming → World → World
+world_named t p f w = record {
+  init = state_named t f w.init;
+  a = record { vals = arguments_named t f (slice_get t.calls p.a) w.a.vals };
+  b = record { vals = arguments_named t f (slice_get t.calls p.b) w.b.vals };
+}
+
+abbrev pub world_relabelled : Tables → Pair → Swap → World → World
+world_relabelled t p by = world_named t p (exchange by)
+
+-- under its new name each cell holds in the second state what it holds in the first, under new names
+abbrev pub LooksNamed : Tables → Naming → Store → Store → Type 0
+LooksNamed t f s u = (c : CellName)
+    → look_up u (cell_named t f c) ≡ option_map (λ v. named t f v (value_type t c.state)) (look_up s c)
 
 -- the old names are those of the new ones, for every element
 abbrev pub Undoes : Names → Type 0

@@ -2,5 +2,7 @@
 #![tactic(auto)]
 
 mod laws;
+mod worlds;
 
-pub use laws::renaming;
+pub use laws::{Relabelled, relabelling, renaming};
+pub use worlds::relabel_world;
