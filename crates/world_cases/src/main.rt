@@ -5,11 +5,13 @@
 //! the touched cells (`!` behind one that was written) and the exceptions at the end. `world MODEL A B CELL.. / VALUE..
 //! / VALUE..` gives the path of a world of the pair of calls A and B, and whether it commutes. `locality MODEL A B
 //! CELL.. / VALUE.. / VALUE.. / CELL..` gives both of that world, and of the one with the same arguments and the last
-//! cells. `met MODEL STATE VALUE` gives whether a value meets a state's invariant. `count MODEL` runs the first call,
-//! and counts its decisions. `states MODEL CELL.. / CELL.. / ELEMENT..` copies a state, sets more cells in it, and
-//! tells both, and what its first map holds. `text TEXT|TASK ..` does a task on the model that a text has. A cell is
-//! `STATE=VALUE` or `STATE[ELEMENT]=VALUE`; a value is an integer, `#N` an element, `.0` or `.1` a variant of bool,
-//! `some#N`, `none`, or `#M,#N` for a record of two elements.
+//! cells. `relabelling MODEL A B CELL.. / VALUE.. / VALUE.. / SORT X Y` gives both of that world and of the one in
+//! which the elements X and Y of the sort are exchanged, then that world, and the one with both exchanged again. `met
+//! MODEL STATE VALUE` gives whether a value meets a state's invariant. `count MODEL` runs the first call, and counts
+//! its decisions. `states MODEL CELL.. / CELL.. / ELEMENT..` copies a state, sets more cells in it, and tells both, and
+//! what its first map holds. `text TEXT|TASK ..` does a task on the model that a text has. A cell is `STATE=VALUE` or
+//! `STATE[ELEMENT]=VALUE`; a value is an integer, `#N` an element, `.0` or `.1` a variant of bool, `some#N`, `none`, or
+//! `#M,#N` for a record of two elements.
 #![tactic(auto)]
 
 mod given;

@@ -4,12 +4,15 @@ ghost use Rattle.std.specs.Prelude.{IfOk, IsTrue};
 ghost use Rattle.cm_world.specs.World.{IsWorldOf};
 
 use crate::given::{Given, HeldCell, element, held, read_given, value_of, values_of};
-use crate::show::{show_decisions, show_exceptions, show_outcome, show_touched, show_value};
+use crate::show::{
+    show_decisions, show_exceptions, show_outcome, show_touched, show_value, show_values,
+};
 use anyhow::{Result, bail};
 use cm_eval::{Args, Log, State, meets_invariant, run_call};
 use cm_model::{Model, Pair};
 use cm_story::{Ran, locality};
-use cm_value::Value;
+use cm_twin::{relabel_world, relabelling};
+use cm_value::{Swap, Value};
 use cm_world::{World, commutes, is_world_of, path_of};
 use std::alloc::Global;
 
@@ -19,6 +22,7 @@ pub fn answer(rt: &HostRuntime, model: &Model, task: &str, rest: &str) -> Result
         "run" => run(rt, model, rest),
         "world" => world(rt, model, rest),
         "locality" => two_worlds(rt, model, rest),
+        "relabelling" => exchange(rt, model, rest),
         "met" => met(rt, model, rest),
         "states" => states(rt, model, rest),
         "count" => count(rt, model),
@@ -161,6 +165,65 @@ fn show_two(
     let (first, second) = locality(rt.alloc(), model, pair, first, second)?;
     show_run(rt, &first)?;
     show_run(rt, &second)
+}
+
+// A sort and two of its elements.
+fn swap_of(words: &str) -> Result<Swap> {
+    let mut words = words.split_whitespace();
+    let (Some(sort), Some(x), Some(y)) = (words.next(), words.next(), words.next()) else {
+        bail!("a sort and two elements");
+    };
+    Ok(Swap {
+        sort: sort.parse::<u16>()?,
+        x: element(x)?,
+        y: element(y)?,
+    })
+}
+
+// A world, and the one in which two elements of a sort are exchanged.
+fn exchange(rt: &HostRuntime, model: &Model, rest: &str) -> Result<()> {
+    let row = world_row(rest)?;
+    let swap = swap_of(row.rest)?;
+    let world = world_with(rt, model, row, row.cells)?;
+    show_exchange(rt, model, row.pair, &world, &swap)
+}
+
+fn show_exchange(
+    rt: &HostRuntime,
+    model: &Model,
+    pair: Pair,
+    first: &World,
+    swap: &Swap,
+) -> Result<()> {
+    if !is_world_of(model, pair, first) {
+        bail!("a world of the pair");
+    }
+    let both = relabelling(rt.alloc(), model, pair, first, swap)?;
+    show_run(rt, &both.first)?;
+    show_run(rt, &both.second)?;
+    show_parts(rt, &both.world)?;
+    show_back(rt, model, pair, &both.world, swap)
+}
+
+// The same two elements exchanged again, which gives the first world.
+fn show_back(rt: &HostRuntime, model: &Model, pair: Pair, world: &World, swap: &Swap) -> Result<()>
+    requires world { IsWorldOf model.now pair world.now }
+{
+    let back = relabel_world(rt.alloc(), model, pair, world, swap)?;
+    show_parts(rt, &back)
+}
+
+// A world: the defaults and the exceptions of its state, and the arguments of both calls.
+fn show_parts(rt: &HostRuntime, world: &World) -> Result<()> {
+    print!(rt; " defaults")?;
+    show_values(rt, world.init.defaults())?;
+    show_exceptions(rt, world.init.exceptions())?;
+    print!(rt; " a")?;
+    show_values(rt, world.a.vals.as_slice())?;
+    print!(rt; " b")?;
+    show_values(rt, world.b.vals.as_slice())?;
+    println!(rt; "")?;
+    Ok(())
 }
 
 fn show_run(rt: &HostRuntime, run: &Ran) -> Result<()> {

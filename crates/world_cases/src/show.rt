@@ -38,6 +38,15 @@ pub fn show_value(rt: &HostRuntime, value: &Value) -> Result<()> {
     Ok(())
 }
 
+/// Values, with a space before each.
+pub fn show_values(rt: &HostRuntime, values: &[Value]) -> Result<()> {
+    for value in values {
+        print!(rt; " ")?;
+        show_value(rt, value)?;
+    }
+    Ok(())
+}
+
 fn show_cell(rt: &HostRuntime, cell: &CellName) -> Result<()> {
     print!(rt; " {}", cell.state)?;
     if let Some(key) = &cell.key {
