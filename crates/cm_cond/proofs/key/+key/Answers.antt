@@ -17,5 +17,5 @@ fields_value-returns-then-parts-fields t c =
     let within : c.parts.i < length fields = omega (arith, end, fewer) in
     sym (ap record_of (sym c.parts.invariant
     ∙ ap (λ (ks : List KeyTerm). fields_after c.parts.values (key_values c.args.known.now ks)
-        (map (λ (p : Part). p.ty) (drop c.parts.i fields))) (drop_all c.parts.i parts done)
+    (map (λ (p : Part). p.ty) (drop c.parts.i fields))) (drop_all c.parts.i parts done)
     ∙ left_over c.parts.values fields c.parts.i within))
