@@ -1,8 +1,8 @@
 //! Walks over all pairs of a model.
 
-ghost use Rattle.std.specs.Prelude.{◌≡◌, ◌<◌, length};
+ghost use Rattle.std.specs.Prelude.{◌≡◌, ◌<◌, length, IfOk};
 
-use anyhow::Result;
+use anyhow::{Result, bail};
 use cm_ctx::Steps;
 use cm_forks::Fault;
 use cm_model::{Model, Pair};
@@ -97,16 +97,27 @@ fn walk_pair(alloc: Global, model: &Model, pair: Pair, limit: u32, done: &mut Do
     walk_counted::<Brand>(alloc, model, pair, limit, done, Blank::new(1))
 }
 
+// The pair of these two calls.
+fn pair_at(a: usize, b: usize) -> Result<Pair>
+    ensures a { IfOk result (λ pair. pair.a ≡ a) }
+    ensures b { IfOk result (λ pair. pair.b ≡ b) }
+{
+    let Ok(a) = u16::try_from(a) else {
+        bail!("too many calls");
+    };
+    let Ok(b) = u16::try_from(b) else {
+        bail!("too many calls");
+    };
+    Ok(Pair { a, b })
+}
+
 // Each pair once, a before b or the same.
 fn walk_pairs(alloc: Global, model: &Model, limit: u32) -> Result<Done> {
     let calls = model.calls().len();
     let mut done = NOTHING;
     for a in 0..calls {
         for b in a..calls {
-            let pair = Pair {
-                a: a as u16,
-                b: b as u16,
-            };
+            let pair = pair_at(a, b)?;
             walk_pair(alloc, model, pair, limit, &mut done)?;
         }
     }

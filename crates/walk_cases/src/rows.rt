@@ -1,8 +1,8 @@
 //! One walk, as lines of text.
 
-ghost use Rattle.std.specs.Prelude.{◌≡◌, ◌<◌, length};
+ghost use Rattle.std.specs.Prelude.{◌≡◌, ◌<◌, length, IfOk};
 
-use anyhow::Result;
+use anyhow::{Result, bail};
 use cm_beside::Verdict;
 use cm_ctx::Steps;
 use cm_forks::Fault;
@@ -187,6 +187,20 @@ impl Sum {
     }
 }
 
+// The pair of these two calls.
+fn pair_at(a: usize, b: usize) -> Result<Pair>
+    ensures a { IfOk result (λ pair. pair.a ≡ a) }
+    ensures b { IfOk result (λ pair. pair.b ≡ b) }
+{
+    let Ok(a) = u16::try_from(a) else {
+        bail!("too many calls");
+    };
+    let Ok(b) = u16::try_from(b) else {
+        bail!("too many calls");
+    };
+    Ok(Pair { a, b })
+}
+
 /// Walks over each pair of a model, and prints how many there are, and how many pass a limit; where none does, how many
 /// leaves they have.
 pub fn show_every(rt: &HostRuntime, model: &Model, limit: u32) -> Result<()> {
@@ -198,10 +212,7 @@ pub fn show_every(rt: &HostRuntime, model: &Model, limit: u32) -> Result<()> {
     };
     for a in 0..calls {
         for b in a..calls {
-            let pair = Pair {
-                a: a as u16,
-                b: b as u16,
-            };
+            let pair = pair_at(a, b)?;
             let row = Row {
                 pair,
                 limit,
