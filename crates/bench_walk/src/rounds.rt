@@ -41,6 +41,14 @@ fn next_length<L: Ledger>(walk: &mut Walk, steps: &mut Steps<L>) -> Result<Optio
 }
 
 impl Done {
+    fn add(&mut self, other: Done) {
+        self.pairs = self.pairs.saturating_add(other.pairs);
+        self.over = self.over.saturating_add(other.over);
+        self.paths = self.paths.saturating_add(other.paths);
+        self.decisions = self.decisions.saturating_add(other.decisions);
+        self.additions = self.additions.saturating_add(other.additions);
+    }
+
     // Counts one answer of a walk, and says whether it goes on.
     fn count(&mut self, next: Result<Option<usize>, Fault>) -> bool {
         match next {
@@ -59,13 +67,18 @@ impl Done {
 }
 
 // One call more than the limit, so that a walk that is over says so.
-fn walk_all<L: Ledger>(walk: &mut Walk, limit: u32, done: &mut Done, steps: &mut Steps<L>) {
+fn walk_all<L: Ledger>(walk: &mut Walk, limit: u32, steps: &mut Steps<L>) -> Done {
+    let mut done = NOTHING;
+    done.pairs = 1;
     for _ in 0..limit {
         if !done.count(next_length(walk, steps)) {
-            return;
+            done.additions = walk.added();
+            return done;
         }
     }
     done.count(next_length(walk, steps));
+    done.additions = walk.added();
+    done
 }
 
 fn walk_counted<L: Ledger>(
@@ -73,9 +86,8 @@ fn walk_counted<L: Ledger>(
     model: &Model,
     pair: Pair,
     limit: u32,
-    done: &mut Done,
     blank: Blank,
-) -> Result<()>
+) -> Result<Done>
     requires a { pair.a < length model.now.calls }
     requires b { pair.b < length model.now.calls }
     requires name { blank.name ≡ L.name }
@@ -84,17 +96,15 @@ fn walk_counted<L: Ledger>(
 {
     let mut steps = Steps::<L>::new(blank);
     let mut walk = Walk::new(alloc, model, pair, limit)?;
-    walk_all(&mut walk, limit, done, &mut steps);
-    done.additions = done.additions.saturating_add(walk.added());
-    done.pairs = done.pairs.saturating_add(1);
-    Ok(())
+    let done = walk_all(&mut walk, limit, &mut steps);
+    Ok(done)
 }
 
-fn walk_pair(alloc: Global, model: &Model, pair: Pair, limit: u32, done: &mut Done) -> Result<()>
+fn walk_pair(alloc: Global, model: &Model, pair: Pair, limit: u32) -> Result<Done>
     requires a { pair.a < length model.now.calls }
     requires b { pair.b < length model.now.calls }
 {
-    walk_counted::<Brand>(alloc, model, pair, limit, done, Blank::new(1))
+    walk_counted::<Brand>(alloc, model, pair, limit, Blank::new(1))
 }
 
 // The pair of these two calls.
@@ -118,7 +128,7 @@ fn walk_pairs(alloc: Global, model: &Model, limit: u32) -> Result<Done> {
     for a in 0..calls {
         for b in a..calls {
             let pair = pair_at(a, b)?;
-            walk_pair(alloc, model, pair, limit, &mut done)?;
+            done.add(walk_pair(alloc, model, pair, limit)?);
         }
     }
     Ok(done)
