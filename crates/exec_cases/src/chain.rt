@@ -64,15 +64,16 @@ fn next_outcome(terms: &Terms, case: &Case, question: &Question, at: &mut usize)
     }
 }
 
-fn is_question(ask: &Ask, question: &Question) -> bool {
+/// Whether a run asks this.
+pub fn is_question(ask: &Ask, question: &Question) -> bool {
     match ask {
         Ask::Question(other) => *other == *question,
         _ => false,
     }
 }
 
-// A copy of a run with the outcome of what was asked.
-fn answered_copy(alloc: Global, run: &Run, outcome: u8) -> Result<Run>
+/// A copy of a run with the outcome of what was asked.
+pub fn answered_copy(alloc: Global, run: &Run, outcome: u8) -> Result<Run>
     requires asked { (cells : CellTable) × IsAskedWith run.now.phase run.now.decider cells }
 {
     let mut copy = run.try_copy(alloc)?;
@@ -295,8 +296,8 @@ fn is_inspection(next: &Next, question: &Question) -> bool {
     }
 }
 
-// A copy of a comparison with the outcome of what was asked.
-fn answered_comparison(compare: &Compare, outcome: u8) -> Result<Compare>
+/// A copy of a comparison with the outcome of what was asked.
+pub fn answered_comparison(compare: &Compare, outcome: u8) -> Result<Compare>
     requires asked { IsAsking compare.now.progress }
 {
     let mut copy = compare.try_copy()?;

@@ -1,23 +1,31 @@
-//! Follows the calls of a pair on terms along the path of a world, and compares them with the calls on values.
+//! Follows calls on terms, and comparisons of terms. A line of standard input is a row.
 //!
-//! A line of standard input is a row, `MODEL|A B|CELL..|VALUE..|VALUE..`: a sample model by its name, `posix` or the
-//! text of a model, the numbers of two calls, cells of the initial state, and the arguments of each call. A cell is
-//! `STATE=VALUE` or `STATE[KEY]=VALUE`; a value is an integer, `#N` for an element, `.N` for a variant, `none`,
-//! `some` before the payload, or the parts of a record with commas between.
+//! `MODEL|A B|CELL..|VALUE..|VALUE..` is a pair: a sample model by its name, `posix` or the text of a model, the
+//! numbers of two calls, cells of the initial state, and the arguments of each call. A cell is `STATE=VALUE` or
+//! `STATE[KEY]=VALUE`; a value is an integer, `#N` for an element, `.N` for a variant, `none`, `some` before the
+//! payload, or the parts of a record with commas between.
 //!
 //! The calls run on terms over a new context: a in ab, b in ab, b in ba, a in ba, and then the last comparison. What
 //! a question stands for in the world is worked out from its variables. It must be the path's next decision, and is
 //! what is answered: to a copy, which goes on, while the origin must ask the same again. Where all is as on values, a
 //! line goes out with `same`, how the world ends, the decisions of each part with `/` behind it, and the touched
 //! cells, `!` behind those written; else one that says what is otherwise.
+//!
+//! `call|MODEL|CALL` is one call on unknown arguments and cells, and `compare|LEFT RIGHT|..` a comparison of pairs of
+//! terms, as `written.rt` has them. The line that goes out has what is asked, and for each outcome, in brackets, what
+//! comes behind it, to the end: a reply, `blocked`, `cells` where one more than a path may touch would be touched;
+//! `unequal`, or `needs` and the equalities.
 #![tactic(auto)]
 
 mod chain;
 mod given;
 mod known;
+mod settling;
 mod show;
 mod terms;
+mod tree;
 mod values;
+mod written;
 
 ghost use Rattle.std.specs.Prelude.{◌<◌, ◌-◌, ◌^◌, length};
 ghost use Rattle.cm_types.specs.Source.{IsRead};
@@ -127,14 +135,33 @@ fn answer_on(rt: &HostRuntime, model: &Model, pair: Pair, given: &str) -> Result
     answer_world(rt, model, pair, &world)
 }
 
-fn answer(rt: &HostRuntime, row: &str) -> Result<()> {
-    let Some((model, row)) = row.split_once('|') else {
-        bail!("no model: {row}");
-    };
+fn answer_pair(rt: &HostRuntime, model: &str, row: &str) -> Result<()> {
     let (pair, given) = row.split_once('|').unwrap_or((row, ""));
     let pair = pair_of(pair)?;
     let model = model_of(rt.alloc(), model)?;
     answer_on(rt, &model, pair, given)
+}
+
+fn answer_call(rt: &HostRuntime, row: &str) -> Result<()> {
+    let Some((model, call)) = row.split_once('|') else {
+        bail!("no call: {row}");
+    };
+    let call = call.parse::<u16>()?;
+    let model = model_of(rt.alloc(), model)?;
+    tree::answer(rt, &model, call)
+}
+
+fn answer(rt: &HostRuntime, row: &str) -> Result<()> {
+    let Some((word, rest)) = row.split_once('|') else {
+        bail!("no row: {row}");
+    };
+    if word == "call" {
+        answer_call(rt, rest)
+    } else if word == "compare" {
+        settling::answer(rt, rest)
+    } else {
+        answer_pair(rt, word, rest)
+    }
 }
 
 fn main(rt: HostRuntime) -> Result<()> {

@@ -37,8 +37,8 @@ pub struct Terms {
     pub known: Known,
 }
 
-// The root of an argument, by its number.
-fn root_of(is_a: bool, number: u16) -> Root
+/// The root of an argument, by its number.
+pub fn root_of(is_a: bool, number: u16) -> Root
     ensures argument { IsArgument result }
 {
     if is_a {
@@ -48,8 +48,8 @@ fn root_of(is_a: bool, number: u16) -> Root
     }
 }
 
-// A term for an argument.
-fn argument(alloc: Global, model: &Model, facts: &mut Ctx, root: Root, ty: &Ty) -> Result<Term>
+/// A term for an argument.
+pub fn argument(alloc: Global, model: &Model, facts: &mut Ctx, root: Root, ty: &Ty) -> Result<Term>
     requires argument { IsArgument root }
     requires roomy { IsRoomy facts.old.pieces 0 }
     ensures roomy { IfOk result (λ t. IsRoomy facts.new.pieces 0) }
