@@ -1,0 +1,5 @@
+pub mod Symbols
+pub mod Cells
+pub mod Literals
+pub mod Reports
+pub mod inner
