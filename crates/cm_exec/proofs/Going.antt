@@ -59,11 +59,6 @@ roomy_more ps qs p n m roomy at e same =
     apart : (i : ℕ) → m ≤ i → root.Cell n ≡ root.Cell i → ⊥
     apart i le other = let number : n ≡ i = cc in omega (arith, same, le, number)
 
--- nothing was asked for
-pub roomy_at_first : (ps : List Piece) (n : ℕ) → ps ≡ [] → IsRoomy ps n
-roomy_at_first ps n e i le p among is =
-    absurd (let none = subst (λ (qs : List Piece). slice_get qs among.0 ≡ Some p) e among.1 in cc)
-
 -- the number of places stays
 pub roomy_still : (ps : List Piece) (n m : ℕ) → IsRoomy ps n → m ≡ n → IsRoomy ps m
 roomy_still ps n m roomy e = subst (IsRoomy ps) (sym e) roomy

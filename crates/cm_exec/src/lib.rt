@@ -12,6 +12,3 @@ mod run;
 pub use compare::{Compare, Next, Progress};
 pub use comparison::{Comparison, Met, Sides};
 pub use run::{Ask, Run};
-
-#[cfg(test)]
-mod tests;
