@@ -168,7 +168,8 @@ impl Ctx {
         self.learn(q, outcome);
     }
 
-    fn learn(&mut self, q: &Question, outcome: u8)
+    /// The same, uncounted: for what is asked of a path that is whole.
+    pub fn learn(&mut self, q: &Question, outcome: u8)
         requires well { IsQuestion self.old q.now }
         requires may { Allows self.old (λ v. outcome_under v q.now ≡ outcome) }
         requires spare { HasSpare self.old q.now }
