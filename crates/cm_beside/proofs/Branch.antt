@@ -25,7 +25,7 @@ use Rattle.cm_relation.specs.Relation.{AreKeys}
 use Rattle.cm_beside.specs.Grounds.{Grounds}
 use Rattle.cm_beside.specs.Fits.{Fits}
 use Rattle.cm_beside.specs.Related.{IsGround, is_question}
-use Rattle.cm_beside.specs.Places.{ArePlaces}
+use Rattle.cm_beside.specs.Places.{IsPlace, ArePlaces}
 use Rattle.cm_beside.specs.Beside.{PairTale, Beside, Judges}
 use Rattle.cm_beside.specs.Nodes.{Next, Asking, Ended, Past, after, Satisfies, CellsAgree}
 use Rattle.cm_beside.proofs.Fitting.{has_worth}
@@ -165,6 +165,31 @@ module _ (t : Tables) (g : Grounds) (ground : IsGround g) where
   places_fit (Ends w) s b c n [] sat (r ∷ done) rest is fit = absurd (cc)
   places_fit (Ends w) s b c n (d ∷ ds) sat [] rest is fit = tt
   places_fit (Ends w) s b c n (d ∷ ds) sat (r ∷ done) rest is fit = absurd (cc)
+
+  -- so does the key of the place behind them
+  pub place_fits : (tale : PairTale) (s : Story) → Beside t g tale s → (c : Counts) (n : ℕ) (answers : List ℕ)
+      → Satisfies v (after t tale c n answers).facts → (done : List Place) (q : Place) (rest : List Place)
+      → (after t tale c n answers).places ≡ done ++ q ∷ rest → TermsFit c n done → IsPlace t g (cell_under v q) q
+  place_fits (Asks a k) s b c n [] sat [] q rest is fit = absurd (cc)
+  place_fits (Asks a k) s b c n [] sat (r ∷ done) q rest is fit = absurd (cc)
+  place_fits (Asks a k) s b c n (d ∷ ds) sat done q rest is fit =
+      place_fits (k d) (b.0 d) (subst (λ e. Beside t g (k e) (b.0 e)) sat.0 b.3) c n ds sat.1 done q rest is fit
+  place_fits (Needs p k) s b c n ds sat [] q rest is fit =
+      let same : p ≡ q = cc in
+      subst (λ z. IsPlace t g (cell_under v z) z) same
+      (refl, b.0, b.1, subst (λ key. AreKeys (Fits t g) b.0.key key p.key) (key_is b.0.key b.2 p.key b.3) b.3)
+  place_fits (Needs p k) s b c n ds sat (r ∷ done) q rest is fit =
+      let x = (made c n p).term in
+      let same : r ≡ p = cc in
+      let later : (after t (k x) (next_counts c n p) (n + 1) ds).places ≡ done ++ q ∷ rest = cc in
+      let mine = subst (λ z. TermsFit c n (z ∷ done)) same fit in
+      place_fits (k x) (b.4 (value_of v x))
+      (b.6 (value_of v x) x (subst (λ u. Fits t g u (value_of v x) x) (type_is p b.0 b.1) mine.0))
+      (next_counts c n p) (n + 1) ds sat done q rest later mine.1
+  place_fits (Ends w) s b c n [] sat [] q rest is fit = absurd (cc)
+  place_fits (Ends w) s b c n [] sat (r ∷ done) q rest is fit = absurd (cc)
+  place_fits (Ends w) s b c n (d ∷ ds) sat [] q rest is fit = absurd (cc)
+  place_fits (Ends w) s b c n (d ∷ ds) sat (r ∷ done) q rest is fit = absurd (cc)
 
   -- and the story touches them one after the other, and the one behind them, as long as those before agree
   pub touches_next : (tale : PairTale) (s : Story) → Beside t g tale s → (o : Look) (c : Counts) (n : ℕ)

@@ -45,16 +45,13 @@ use Rattle.cm_beside.specs.Places.{ArePlaces}
 use Rattle.cm_beside.specs.Beside.{PairTale, pair_tale, Beside, Judges}
 use Rattle.cm_beside.specs.Nodes.{args_a, args_b, counts_b, pieces_of, Next, Asking, Ended, node, node_at}
 use Rattle.cm_beside.specs.Nodes.{IsNode, IsValuation, Satisfies, CellsAgree, Agrees, WorldSatisfies}
-use Rattle.cm_beside.specs.Leaf.{StartsWith, IsValuationOf, IsSo, AreNeeded, IsRightLeaf, IsRightNode}
+use Rattle.cm_beside.specs.Leaf.{StartsWith, IsValuationOf, IsSo, AreNeeded, AreKeyed, IsRightLeaf, IsRightNode}
 use Rattle.cm_beside.proofs.Fitting.{member}
 use Rattle.cm_beside.proofs.Declaring.{IsDeclared, places_declared, pair_needs}
-use Rattle.cm_beside.proofs.Branch.{TermsFit, Comes, on_branch, places_fit, touches_next}
-use Rattle.cm_beside.proofs.Worlds.{here, grounded, fit_a, fit_b, terms_fit, stands, from_world}
+use Rattle.cm_beside.proofs.Branch.{TermsFit, Comes, on_branch, places_fit, place_fits, touches_next}
+use Rattle.cm_beside.proofs.Worlds.{here, here_all, grounded, grounded_all, fit_a, fit_b, fit_all, terms_fit, stands}
+use Rattle.cm_beside.proofs.Worlds.{from_world, all_front}
 use Rattle.cm_beside.proofs.Making.{exceptions, cells_of, agree_made, defaults, state_made, apart_front}
-
-all_front : {X : Type 0} (P : X → Type 0) (xs ys : List X) → AllByRecursion P (xs ++ ys) → AllByRecursion P xs
-all_front P [] ys h = tt
-all_front P (x ∷ xs) ys h = (h.0, all_front P xs ys h.1)
 
 -- where a node's places begin with some
 module _ (t : Tables) (typed : IsWellTyped t) (p : Pair) (a b : Call) (at_a : slice_get t.calls p.a ≡ Some a)
@@ -74,16 +71,16 @@ module _ (t : Tables) (typed : IsWellTyped t) (p : Pair) (a b : Call) (at_a : sl
 
   module _ (v : Valuation) (is : IsValuation pieces v) (sat : Satisfies v facts) where
     abbrev g : Grounds
-    g = here t typed p a b at_a at_b places declared v is
+    g = here_all t typed p a b at_a at_b places declared v is
 
     abbrev ground : IsGround g
-    ground = grounded t typed p a b at_a at_b places declared v is
+    ground = grounded_all t typed p a b at_a at_b places declared v is
 
     sat_there : Satisfies v (node_at t p (payloads_of pieces) answers).facts
     sat_there = subst (Satisfies v) (sym (ap (λ n. n.facts) at_node)) sat
 
     fit : TermsFit t g ground (counts_b t p) 0 places
-    fit = terms_fit t typed p a b at_a at_b places declared v is
+    fit = fit_all t typed p a b at_a at_b places declared v is
 
     fit_front : (c : Counts) (n : ℕ) (done more : List Place) → TermsFit t g ground c n (done ++ more)
         → TermsFit t g ground c n done
@@ -94,8 +91,18 @@ module _ (t : Tables) (typed : IsWellTyped t) (p : Pair) (a b : Call) (at_a : sl
     -- the cells are different ones
     are_places : ArePlaces t g (map (cell_under v) places) places
     are_places =
-        places_fit t g ground tale _ (stands t typed p a b at_a at_b places declared v is) (counts_b t p) 0 answers
+        places_fit t g ground tale _ (stands t typed p a b at_a at_b places declared v is places [] (sym (append-nil places))) (counts_b t p) 0 answers
         sat_there places rest (ap (λ n. n.places) at_node) fit
+
+    -- each place's key fits by the symbols of the arguments and of the cells before it
+    pub keyed : AreKeyed t p v places
+    keyed first q more whole =
+        let g_first = here t typed p a b at_a at_b places declared v is first (q ∷ more) whole in
+        place_fits t g_first (grounded t typed p a b at_a at_b places declared v is first (q ∷ more) whole) tale _
+        (stands t typed p a b at_a at_b places declared v is first (q ∷ more) whole) (counts_b t p) 0 answers sat_there
+        first q (more ++ rest)
+        (ap (λ n. n.places) at_node ∙ ap (λ qs. qs ++ rest) whole ∙ append_assoc first (q ∷ more) rest)
+        (terms_fit t typed p a b at_a at_b places declared v is first (q ∷ more) whole)
 
     -- and where those before one agree, that one is touched behind them
     touched_then : (o : Look) (done : List Place) (q : Place) (more : List Place) → places ++ rest ≡ done ++ q ∷ more
@@ -103,7 +110,7 @@ module _ (t : Tables) (typed : IsWellTyped t) (p : Pair) (a b : Call) (at_a : sl
         → (later : List CellName) × (cells_in o (story_of t p (map (value_of v) (args_a t p)) (map (value_of v) (args_b t p)))
         ≡ map (cell_under v) done ++ cell_under v q ∷ later)
     touched_then o done q more whole fits agree =
-        touches_next t g ground tale _ (stands t typed p a b at_a at_b places declared v is) o (counts_b t p) 0 answers
+        touches_next t g ground tale _ (stands t typed p a b at_a at_b places declared v is places [] (sym (append-nil places))) o (counts_b t p) 0 answers
         sat_there done q more (ap (λ n. n.places) at_node ∙ whole) fits agree
 
     further : (done more : List Place) → places ≡ done ++ more → Apart (map (cell_under v) done)
@@ -155,9 +162,9 @@ module _ (t : Tables) (typed : IsWellTyped t) (p : Pair) (a b : Call) (at_a : sl
         is_world = record {
           init = state_made t typed g ground (counts_b t p) 0 places are_places fit all_apart;
           a = ap (λ c. are_arguments_in t c (map (value_of v) (args_a t p))) at_a
-              ∙ values_are (map (λ q. q.ty) a.params) _ (args_a t p) (fit_a t typed p a b at_a at_b places declared v is);
+              ∙ values_are (map (λ q. q.ty) a.params) _ (args_a t p) (fit_a t typed p a b at_a at_b places declared v is places [] (sym (append-nil places)));
           b = ap (λ c. are_arguments_in t c (map (value_of v) (args_b t p))) at_b
-              ∙ values_are (map (λ q. q.ty) b.params) _ (args_b t p) (fit_b t typed p a b at_a at_b places declared v is);
+              ∙ values_are (map (λ q. q.ty) b.params) _ (args_b t p) (fit_b t typed p a b at_a at_b places declared v is places [] (sym (append-nil places)));
         };
         agrees = record {
           a = refl;
@@ -199,10 +206,10 @@ module _ (t : Tables) (typed : IsWellTyped t) (p : Pair) (a b : Call) (at_a : sl
 
   module _ (v : Valuation) (is : IsValuation pieces_ v) (sat : Satisfies v facts) where
     abbrev g_ : Grounds
-    g_ = here t typed p a b at_a at_b places declared_ v is
+    g_ = here_all t typed p a b at_a at_b places declared_ v is
 
     abbrev ground_ : IsGround g_
-    ground_ = grounded t typed p a b at_a at_b places declared_ v is
+    ground_ = grounded_all t typed p a b at_a at_b places declared_ v is
 
     sat_here : Satisfies v (node_at t p (payloads_of pieces_) answers).facts
     sat_here = subst (Satisfies v) (sym (ap (λ n. n.facts) here_is)) sat
@@ -219,18 +226,17 @@ module _ (t : Tables) (typed : IsWellTyped t) (p : Pair) (a b : Call) (at_a : sl
         (subst (λ qs. Comes t g_ ground_ (looks u.init) s answers qs (node_at t p (payloads_of pieces_) answers).next)
         (ap (λ n. n.places) here_is)
         (on_branch t g_ ground_ tale_ s
-        (subst (Beside t g_ tale_) same (stands t typed p a b at_a at_b places declared_ v is)) (looks u.init)
+        (subst (Beside t g_ tale_) same (stands t typed p a b at_a at_b places declared_ v is places [] (sym (append-nil places)))) (looks u.init)
         (counts_b t p) 0 answers sat_here
         (subst (CellsAgree t v (looks u.init) (counts_b t p) 0) (sym (ap (λ n. n.places) here_is)) agrees.cells)
         (subst (TermsFit t g_ ground_ (counts_b t p) 0) (sym (ap (λ n. n.places) here_is))
-        (terms_fit t typed p a b at_a at_b places declared_ v is))))
+        (fit_all t typed p a b at_a at_b places declared_ v is))))
 
   made_world : (v : Valuation) → IsValuation pieces_ v → Satisfies v facts → (u : World) × IsValuationOf t p v places u
   made_world = valued t typed p a b at_a at_b answers facts places [] next at_node_
 
-  keyed_here : (v : Valuation) (is : IsValuation pieces_ v) (sat : Satisfies v facts)
-      → ArePlaces t (g_ v is sat) (map (cell_under v) places) places
-  keyed_here = are_places t typed p a b at_a at_b answers facts places [] next at_node_
+  keyed_here : (v : Valuation) → IsValuation pieces_ v → Satisfies v facts → AreKeyed t p v places
+  keyed_here = keyed t typed p a b at_a at_b answers facts places [] next at_node_
 
   from : (u : World) → IsWorldOf t p u → (rest : List ℕ) → path_of_world t p u ≡ answers ++ rest
       → WorldSatisfies t p u facts places

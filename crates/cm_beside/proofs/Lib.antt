@@ -11,8 +11,11 @@ pub mod Calls
 pub mod Playing
 pub mod Settling
 pub mod Pairs
+pub mod Enums
 pub mod Fresh
 pub mod Rows
+pub mod Seeing
+pub mod Seen
 pub mod Branch
 pub mod Filling
 pub mod Declaring

@@ -11,7 +11,7 @@ use Rattle.cm_model.specs.declared.ty.RecDecl.{RecDecl}
 use Rattle.cm_model.specs.declared.variable.SortVar.{SortVar}
 use Rattle.cm_value.specs.declared.value.Value.{Value}
 use Rattle.cm_value.specs.declared.value.Value.TheVariants as value
-use Rattle.cm_value.specs.Membership.{field_types}
+use Rattle.cm_value.specs.Membership.{field_types, is_variant_of}
 use Rattle.cm_value.proofs.Limited.{value_is_limited, limited_tag}
 use Rattle.cm_term.specs.declared.atom.Num.{Num}
 use Rattle.cm_term.specs.declared.atom.Tag.{Tag}
@@ -23,7 +23,7 @@ use Rattle.cm_eval.specs.Comparison as eval
 use Rattle.cm_eval.proofs.Examples.{out_rec}
 use Rattle.cm_beside.specs.Grounds.{Grounds}
 use Rattle.cm_beside.specs.Fits.{Fitting, is_element, is_number, is_choice, is_num}
-use Rattle.cm_beside.specs.Fits.{all_fit, is_of_sort}
+use Rattle.cm_beside.specs.Fits.{all_fit, is_of_sort, is_tag, is_tag_of}
 use Rattle.cm_beside.specs.Fits.{value_offset_limit}
 use Rattle.cm_beside.specs.Related.{is_question, is_variant, are_one_sort, asked_limit}
 use Rattle.cm_beside.proofs.Layers.{fitting}
@@ -82,8 +82,10 @@ module _ (t : Tables) (g : Grounds) where
   pub variant_asked : (m : ℕ) (u : Ty) (a : Tag) → is_choice t g u m (Some a) ≡ true → m < variant_limit
       → is_question t g (question.TagOf a) ≡ true
   variant_asked m u a h lt =
-      and_from _ _ (and_parts _ _ (and_parts _ _ h).1).1
-      (by a (eqb-true (tag_under g.valuation.tag a) m (and_parts _ _ h).0))
+      let rest = and_parts (tag_under g.valuation.tag a == m) _ h in
+      let there = and_parts (is_tag_of t g u a) (is_tag t g a) (and_parts (is_variant_of t (out-Ty u) m) _ rest.1).1 in
+      and_from _ _ there.1
+      (by a (eqb-true (tag_under g.valuation.tag a) m rest.0))
     where
       by : (a : Tag) → tag_under g.valuation.tag a ≡ m → is_variant t g a ≡ true
       by (tag.Const e i) same = lt-ltb i variant_limit (subst (λ j. j < variant_limit) (sym same) lt)

@@ -1,6 +1,6 @@
 -- What a valuation of what was made gives: the terms fit their values.
 use Rattle.std.proofs.Common.{◌≡◌, ◌<◌, ◌≤◌, ◌+◌, ℕ, zero, suc, ltb, ℤ, pos, neg_ℤ, ◌≤ℤ◌, int_le, Bool, true, false}
-use Rattle.std.proofs.Common.{List, [], ◌∷◌, ◌++◌, map, length, slice_get, Some, refl, sym, ap}
+use Rattle.std.proofs.Common.{List, [], ◌∷◌, ◌++◌, map, length, slice_get, Option, Some, refl, sym, ap}
 use Rattle.std.proofs.Common.{◌∙◌, subst, arith, append_assoc}
 use Rattle.std.specs.List.{AllByRecursion}
 use Rattle.std.proofs.lemmas.Bool.{and_from, ltb-true, ltb-false}
@@ -12,8 +12,9 @@ use Rattle.cm_model.specs.WellTyped.{IsWellTyped}
 use Rattle.cm_model.specs.Types.{IsType}
 use Rattle.cm_model.specs.declared.ty.Ty.{Ty}
 use Rattle.cm_term.specs.declared.symbol.Root.{Root}
+use Rattle.cm_term.specs.declared.symbol.Sym.{Sym}
 use Rattle.cm_term.specs.declared.term.Term.{Term}
-use Rattle.cm_term.specs.Valuation.{Valuation, Var}
+use Rattle.cm_term.specs.Valuation.{Valuation, Var, OfTag}
 use Rattle.cm_term.specs.Terms.{value_of, vars_of}
 use Rattle.cm_ctx.specs.declared.piece.Counts.{Counts}
 use Rattle.cm_ctx.specs.declared.piece.ElementPart.{ElementPart}
@@ -21,6 +22,9 @@ use Rattle.cm_ctx.specs.declared.piece.NumberPart.{NumberPart}
 use Rattle.cm_ctx.specs.declared.piece.TagPart.{TagPart}
 use Rattle.cm_ctx.specs.declared.piece.OptionPart.{OptionPart}
 use Rattle.cm_ctx.specs.declared.piece.Piece.{Piece}
+use Rattle.cm_ctx.specs.declared.naming.Kind.{Kind}
+use Rattle.cm_ctx.specs.declared.naming.Kind.TheVariants as kind
+use Rattle.cm_ctx.specs.Naming.{syms_in, syms_of}
 use Rattle.cm_ctx.specs.Making.{counted, first_counts, piece_of, place}
 use Rattle.cm_ctx.specs.Contexts.{payloads_of, payloads_in, sorts_of}
 use Rattle.cm_ctx.specs.Giving.{EachFrom, Gives, IsWithin, HasPayload}
@@ -33,9 +37,10 @@ use Rattle.cm_beside.specs.Fits.{Fits, is_near}
 use Rattle.cm_beside.specs.Related.{IsGround}
 use Rattle.cm_exec.specs.Run.{counted_all, GivesAll}
 use Rattle.cm_beside.specs.Nodes.{pieces_from, grounds_of, IsValuation}
+use Rattle.cm_beside.specs.Seen.{symbol_at}
 use Rattle.cm_beside.proofs.Fitting.{grows}
 use Rattle.cm_beside.proofs.Near.{tested}
-use Rattle.cm_beside.proofs.Fresh.{AreThere, IsClosed, made_fresh}
+use Rattle.cm_beside.proofs.Fresh.{AreThere, IsClosed, enum_at, made_fresh}
 
 -- rows of pieces
 pub behind_both : (c : Counts) (ps qs : List Piece) → counted_all c (ps ++ qs) ≡ counted_all (counted_all c ps) qs
@@ -82,7 +87,7 @@ many_sorts c (p ∷ ps) =
     let m = length-map p.variables.elements (λ (d : ElementPart). d.sort) in
     omega (arith, rest, n, m)
 
-many_payloads : (c : Counts) (ps : List Piece) → c.options + length (payloads_of ps) ≡ (counted_all c ps).options
+pub many_payloads : (c : Counts) (ps : List Piece) → c.options + length (payloads_of ps) ≡ (counted_all c ps).options
 many_payloads c [] = omega arith
 many_payloads c (p ∷ ps) =
     let rest = many_payloads (counted c p.variables) ps in
@@ -90,20 +95,34 @@ many_payloads c (p ∷ ps) =
     let m = length-map p.variables.options (λ (d : OptionPart). d.payload) in
     omega (arith, rest, n, m)
 
+-- the symbols of pieces
+pub syms_both : (k : Kind) (ps qs : List Piece) → syms_of k (ps ++ qs) ≡ syms_of k ps ++ syms_of k qs
+syms_both k [] qs = refl
+syms_both k (p ∷ ps) qs =
+    ap (λ ss. syms_in k p ++ ss) (syms_both k ps qs) ∙ sym (append_assoc (syms_in k p) (syms_of k ps) (syms_of k qs))
+
+pub many_tags : (c : Counts) (ps : List Piece) → c.tags + length (syms_of kind.Tag ps) ≡ (counted_all c ps).tags
+many_tags c [] = omega arith
+many_tags c (p ∷ ps) =
+    let rest = many_tags (counted c p.variables) ps in
+    let n = length-append (syms_in kind.Tag p) (syms_of kind.Tag ps) in
+    let m = length-map p.variables.tags (λ (d : TagPart). d.sym) in
+    omega (arith, rest, n, m)
+
 -- the i-th of some, behind others and before others
-behind : {Y : Type 0} (before ys : List Y) (i : ℕ) → slice_get (before ++ ys) (length before + i) ≡ slice_get ys i
+pub behind : {Y : Type 0} (before ys : List Y) (i : ℕ) → slice_get (before ++ ys) (length before + i) ≡ slice_get ys i
 behind [] ys i = (let e : 0 + i ≡ i = omega arith in ap (slice_get ys) e)
 behind (y ∷ before) ys i =
     (let e : length (y ∷ before) + i ≡ suc (length before + i) = omega arith in
     ap (slice_get (y ∷ (before ++ ys))) e ∙ behind before ys i)
 
-in_front : {X Y : Type 0} (f : X → Y) (xs : List X) (more : List Y) (i : ℕ) (x : X) → slice_get xs i ≡ Some x
+pub in_front : {X Y : Type 0} (f : X → Y) (xs : List X) (more : List Y) (i : ℕ) (x : X) → slice_get xs i ≡ Some x
     → slice_get (map f xs ++ more) i ≡ Some (f x)
 in_front f [] more i x at = absurd (cc)
 in_front f (z ∷ xs) more zero x at = (let s : z ≡ x = cc in ap (λ y. Some (f y)) s)
 in_front f (z ∷ xs) more (suc i) x at = in_front f xs more i x at
 
-within : {X Y : Type 0} (f : X → Y) (before : List Y) (xs : List X) (more : List Y) (i : ℕ) (x : X)
+pub within : {X Y : Type 0} (f : X → Y) (before : List Y) (xs : List X) (more : List Y) (i : ℕ) (x : X)
     → slice_get xs i ≡ Some x → slice_get (before ++ (map f xs ++ more)) (length before + i) ≡ Some (f x)
 within f before xs more i x at = behind before (map f xs ++ more) i ∙ in_front f xs more i x at
 
@@ -132,17 +151,23 @@ pub gives_both : (ps qs : List Piece) (v : Valuation) → GivesAll ps v → Give
 gives_both [] qs v g h = h
 gives_both (p ∷ ps) qs v g h = (g.0, gives_both ps qs v g.1 h)
 
-module _ (t : Tables) (pieces : List Piece) (v : Valuation) (has : Var → Bool) where
+module _ (t : Tables) (pieces : List Piece) (enums : ℕ → Option ℕ) (v : Valuation) (has : Var → Bool) where
   abbrev g : Grounds
-  g = grounds_of pieces v has
+  g = grounds_of pieces enums v has
 
   abbrev total : Counts
   total = counted_all first_counts pieces
 
+  -- each enum is that of the type of the variable's symbol, by the types of roots
+  abbrev pub AreOfSymbols : (Root → Option Ty) → Type 0
+  AreOfSymbols type_of_root =
+      (x : ℕ) (s : Sym) → symbol_at pieces (OfTag x) ≡ Some s → enums x ≡ enum_at t g type_of_root s
+
   -- a piece stands behind these
-  there_at : (done : List Piece) (p : Piece) (more : List Piece) → pieces ≡ done ++ p ∷ more
-      → p.from ≡ counted_all first_counts done → AreThere t g p.from p.variables
-  there_at done p more is from = record {
+  there_at : (type_of_root : Root → Option Ty) → AreOfSymbols type_of_root → (done : List Piece) (p : Piece)
+      (more : List Piece) → pieces ≡ done ++ p ∷ more → p.from ≡ counted_all first_counts done
+      → AreThere t g type_of_root p.from p.variables
+  there_at type_of_root of done p more is from = record {
     sorts = each_from (λ x (d : ElementPart). slice_get (sorts_of pieces) x ≡ Some d.sort) p.from.elements
         p.variables.elements (λ i d at.
         ap (λ n. slice_get (sorts_of pieces) (n + i)) elements_are
@@ -151,9 +176,12 @@ module _ (t : Tables) (pieces : List Piece) (v : Valuation) (has : Var → Bool)
     numbers = each_from (λ x (d : NumberPart). x < total.numbers) p.from.numbers p.variables.numbers (λ i d at.
         let lt : i < length p.variables.numbers = get_within p.variables.numbers i d at in
         let n = fewer.numbers in omega (arith, lt, n));
-    tags = each_from (λ x (d : TagPart). x < total.tags) p.from.tags p.variables.tags (λ i d at.
-        let lt : i < length p.variables.tags = get_within p.variables.tags i d at in
-        let n = fewer.tags in omega (arith, lt, n));
+    tags = each_from (λ x (d : TagPart). (x < total.tags) × (enums x ≡ enum_at t g type_of_root d.sym)) p.from.tags
+        p.variables.tags (λ i d at. (
+          let lt : i < length p.variables.tags = get_within p.variables.tags i d at in
+              let n = fewer.tags in omega (arith, lt, n),
+          of (p.from.tags + i) d.sym (symbol_is i d at),
+        ));
     options = each_from (λ x (d : OptionPart). (x < total.options) × (slice_get (payloads_of pieces) x ≡ Some d.payload))
         p.from.options p.variables.options (λ i d at. (
           let lt : i < length p.variables.options = get_within p.variables.options i d at in
@@ -171,6 +199,17 @@ module _ (t : Tables) (pieces : List Piece) (v : Valuation) (has : Var → Bool)
 
       elements_are : p.from.elements ≡ length (sorts_of done)
       elements_are = ap (λ c. c.elements) from ∙ sym (let e = many_sorts first_counts done in omega (arith, e))
+
+      tags_are : p.from.tags ≡ length (syms_of kind.Tag done)
+      tags_are = ap (λ c. c.tags) from ∙ sym (let e = many_tags first_counts done in omega (arith, e))
+
+      symbol_is : (i : ℕ) (d : TagPart) → slice_get p.variables.tags i ≡ Some d
+          → symbol_at pieces (OfTag (p.from.tags + i)) ≡ Some d.sym
+      symbol_is i d at =
+          ap (λ n. slice_get (syms_of kind.Tag pieces) (n + i)) tags_are
+          ∙ ap (λ ss. slice_get ss (length (syms_of kind.Tag done) + i))
+          (ap (syms_of kind.Tag) is ∙ syms_both kind.Tag done (p ∷ more))
+          ∙ within (λ (d : TagPart). d.sym) (syms_of kind.Tag done) p.variables.tags (syms_of kind.Tag more) i d at
 
       options_are : p.from.options ≡ length (payloads_of done)
       options_are = ap (λ c. c.options) from ∙ sym (let e = many_payloads first_counts done in omega (arith, e))
@@ -280,21 +319,22 @@ module _ (t : Tables) (pieces : List Piece) (v : Valuation) (has : Var → Bool)
     abbrev AllDeclared : List Ty → Type 0
     AllDeclared = AllByRecursion (IsType t)
 
-    module _ (closed : IsClosed t g) where
+    module _ (closed : IsClosed t g) (type_of_root : Root → Option Ty) (of : AreOfSymbols type_of_root) where
       pub one_fits : (done : List Piece) (u : Ty) (r : Root) (c : Counts) (more : List Piece)
           → pieces ≡ done ++ piece_of t u r c ∷ more → c ≡ counted_all first_counts done → IsType t u
-          → Gives c (piece_of t u r c).variables v → AllByRecursion (λ x. has x ≡ true) (vars_of (piece_of t u r c).term)
+          → type_of_root r ≡ Some u → Gives c (piece_of t u r c).variables v
+          → AllByRecursion (λ x. has x ≡ true) (vars_of (piece_of t u r c).term)
           → Fits t g u (value_of v (piece_of t u r c).term) (piece_of t u r c).term
-      one_fits done u r c more is from declared gives have =
+      one_fits done u r c more is from declared root_is gives have =
           let q = piece_of t u r c in
-          let fresh = made_fresh t typed g closed u declared in
+          let fresh = made_fresh t typed g closed type_of_root u declared in
           let less : (counted c q.variables).options ≤ total.options =
           (let n = (no_fewer (counted c q.variables) more).options in
           let e = ap (λ c. c.options) (ap (λ c. counted_all (counted c q.variables) more) from
           ∙ sym (behind_both first_counts done (q ∷ more)) ∙ sym (ap (counted_all first_counts) is)) in
           omega (arith, n, e)) in
           grows t g (value_of v q.term) u (counted c q.variables).options total.options q.term less
-          (fresh.fits_ (place r [] c) gives (there_at done q more is from) have)
+          (fresh.fits_ (place r [] c) root_is gives (there_at type_of_root of done q more is from) have)
 
       abbrev HaveTerms : List Piece → Type 0
       HaveTerms = AllByRecursion (λ (p : Piece). AllByRecursion (λ x. has x ≡ true) (vars_of p.term))
@@ -302,17 +342,21 @@ module _ (t : Tables) (pieces : List Piece) (v : Valuation) (has : Var → Bool)
       -- those of symbols of these types, behind and before others
       pub row_fits : (done : List Piece) (r : ℕ → Root) (i : ℕ) (us : List Ty) (c : Counts) (more : List Piece)
           → pieces ≡ done ++ (pieces_from t r i us c ++ more) → c ≡ counted_all first_counts done → AllDeclared us
+          → ((j : ℕ) (u : Ty) → slice_get us j ≡ Some u → type_of_root (r (i + j)) ≡ Some u)
           → GivesAll (pieces_from t r i us c) v
           → HaveTerms (pieces_from t r i us c)
           → AreAll (Fits t g) us (map (value_of v) (map (λ (q : Piece). q.term) (pieces_from t r i us c)))
           (map (λ (q : Piece). q.term) (pieces_from t r i us c))
-      row_fits done r i [] c more is from declared gives have = tt
-      row_fits done r i (u ∷ us) c more is from declared gives have =
-          let q = piece_of t u (r i) c in (
+      row_fits done r i [] c more is from declared roots gives have = tt
+      row_fits done r i (u ∷ us) c more is from declared roots gives have =
+          let q = piece_of t u (r i) c in
+          let here : i ≡ i + 0 = omega arith in (
             one_fits done u (r i) c (pieces_from t r (i + 1) us (counted c q.variables) ++ more) is from declared.0
-                gives.0 have.0,
+                (ap (λ n. type_of_root (r n)) here ∙ roots 0 u refl) gives.0 have.0,
             row_fits (done ++ q ∷ []) r (i + 1) us (counted c q.variables) more
                 (is ∙ sym (append_assoc done (q ∷ []) (pieces_from t r (i + 1) us (counted c q.variables) ++ more)))
                 (ap (λ d. counted d q.variables) from ∙ sym (behind_both first_counts done (q ∷ [])))
-                declared.1 gives.1 have.1,
+                declared.1
+                (λ j w at. (let next : i + 1 + j ≡ i + suc j = omega arith in
+                ap (λ n. type_of_root (r n)) next ∙ roots (suc j) w at)) gives.1 have.1,
           )

@@ -1,10 +1,12 @@
 -- From a world to a valuation, and from a valuation to a world.
-use Rattle.std.proofs.Common.{◌≡◌, ◌+◌, ℕ, ◌==◌, pos, Bool, true, false, List, [], ◌∷◌, ◌++◌}
-use Rattle.std.proofs.Common.{map, length, slice_get, Some, refl, sym, ap, ◌∙◌, subst, arith, append_assoc}
-use Rattle.std.proofs.Common.{if◌then◌else◌}
+use Rattle.std.proofs.Common.{◌≡◌, ◌+◌, ℕ, zero, suc, ◌==◌, pos, Bool, true, false, List, [], ◌∷◌, ◌++◌}
+use Rattle.std.proofs.Common.{map, length, slice_get, Option, Some, None, refl, sym, ap, ◌∙◌, subst, arith}
+use Rattle.std.proofs.Common.{append_assoc, if◌then◌else◌}
 use Rattle.std.specs.List.{AllByRecursion, list_all}
 use Rattle.std.proofs.lemmas.Bool.{and_parts, and_from, eqb-true, eq-eqb}
 use Rattle.std.proofs.lemmas.List.{append-nil}
+use Rattle.std.proofs.lemmas.Option.{slice_get-map}
+use Rattle.std.specs.Option.{option_map}
 use Rattle.cm_model.specs.Tables.{Tables}
 use Rattle.cm_model.specs.WellTyped.{IsWellTyped, is_call, is_state, is_key_type, are_parameters}
 use Rattle.cm_model.specs.Types.{IsType, is_type_before, is_type_in_use}
@@ -17,10 +19,11 @@ use Rattle.cm_value.specs.Membership.{is_value_of, are_values_of}
 use Rattle.cm_value.specs.Least.{least_of}
 use Rattle.cm_value.proofs.LeastMember.{least_is_value}
 use Rattle.cm_value.proofs.Declared.{all_at}
+use Rattle.cm_term.specs.declared.symbol.Root.{Root}
 use Rattle.cm_term.specs.declared.symbol.Root.TheVariants as root
 use Rattle.cm_term.specs.declared.question.Fact.{Fact}
 use Rattle.cm_term.specs.Valuation.{Valuation, Var, valuation}
-use Rattle.cm_term.specs.Terms.{value_of, vars_of}
+use Rattle.cm_term.specs.Terms.{value_of}
 use Rattle.cm_eval.specs.declared.log.CellName.{CellName}
 use Rattle.cm_cells.specs.CellTable.{Place}
 use Rattle.cm_ctx.specs.declared.piece.Counts.{Counts}
@@ -47,6 +50,8 @@ use Rattle.cm_world.proofs.TypedRuns.{look_up_typed}
 use Rattle.cm_eval.specs.State.{Store}
 use Rattle.cm_world.specs.World.{IsStateOf}
 use Rattle.cm_relation.specs.Relation.{AreAll}
+use Rattle.cm_cond.specs.Typing.{type_of_part, parameter, parameter_in, cell_type, root_type}
+use Rattle.cm_cond.specs.Typing as typing
 use Rattle.cm_beside.specs.Grounds.{Grounds}
 use Rattle.cm_beside.specs.Fits.{Fits}
 use Rattle.cm_beside.specs.Related.{IsGround}
@@ -56,19 +61,30 @@ use Rattle.cm_beside.specs.Nodes.{pieces_from, types_of, parameter_types, pieces
 use Rattle.cm_beside.specs.Nodes.{counts_b, args_a, args_b, pieces_of, Next, node, node_at, IsNode}
 use Rattle.cm_beside.specs.Nodes.{IsValuation, Satisfies, CellsAgree, WorldSatisfies, grounds_of}
 use Rattle.cm_beside.proofs.Rows.{gives_first, gives_last, gives_both, behind_both, row_both, row_from, ground, row_fits, one_fits}
+use Rattle.cm_beside.proofs.Rows.{AreOfSymbols}
+use Rattle.cm_beside.proofs.Enums.{part_type}
 use Rattle.cm_beside.proofs.Fresh.{IsClosed}
+use Rattle.cm_beside.proofs.Seen.{HaveTerms, have_parts, opened}
+use Rattle.cm_beside.specs.Seen.{has_value}
+use Rattle.cm_beside.specs.Enums.{without_key, cells_of, symbol_enum, enum_of}
 use Rattle.cm_beside.proofs.Filling.{terms_of, TypedRow, typed_from, row_kept, filled, no_more}
 use Rattle.cm_beside.proofs.Declaring.{IsDeclared}
 use Rattle.cm_beside.proofs.Branch.{TermsFit, Given, goes_along}
 use Rattle.cm_beside.proofs.Pairs.{pair_beside}
 
--- each variable has a value
-abbrev pub Every : Var → Bool
-Every x = true
+pub all_front : {X : Type 0} (P : X → Type 0) (xs ys : List X) → AllByRecursion P (xs ++ ys) → AllByRecursion P xs
+all_front P [] ys h = tt
+all_front P (x ∷ xs) ys h = (h.0, all_front P xs ys h.1)
 
-pub every_has : (xs : List Var) → AllByRecursion (λ x. Every x ≡ true) xs
-every_has [] = tt
-every_has (x ∷ xs) = (refl, every_has xs)
+-- what is made for some cells and for others behind them
+pieces_more : (t : Tables) (c : Counts) (n : ℕ) (old new : List Place) → pieces_for t c n (old ++ new)
+    ≡ pieces_for t c n old ++ pieces_for t (counted_all c (pieces_for t c n old)) (n + length old) new
+pieces_more t c n [] new = let same : n ≡ n + 0 = omega arith in ap (λ m. pieces_for t c m new) same
+pieces_more t c n (q ∷ old) new =
+    let d : Counts = counted c (piece_at t c n q).variables in
+    let same : n + 1 + length old ≡ n + length (q ∷ old) = omega arith in
+    ap (λ l. piece_at t c n q ∷ l) (pieces_more t d (n + 1) old new
+    ∙ ap (λ m. pieces_for t d (n + 1) old ++ pieces_for t (counted_all d (pieces_for t d (n + 1) old)) m new) same)
 
 module _ (t : Tables) (typed : IsWellTyped t) (p : Pair) (a b : Call) (at_a : slice_get t.calls p.a ≡ Some a)
     (at_b : slice_get t.calls p.b ≡ Some b) (places : List Place) (declared : AllByRecursion (IsDeclared t) places) where
@@ -115,19 +131,44 @@ module _ (t : Tables) (typed : IsWellTyped t) (p : Pair) (a b : Call) (at_a : sl
   cells_row c n [] = refl
   cells_row c n (q ∷ qs) = (refl, cells_row (counted c (piece_at t c n q).variables) (n + 1) qs)
 
-  whole_row : InRow first_counts pieces (counted_all first_counts pieces)
-  whole_row =
-      row_both first_counts (pieces_a t p) (pieces_b t p ++ pieces_for t (counts_b t p) 0 places)
+  pub pieces_row : (qs : List Place) → InRow first_counts (pieces_of t p qs) (counted_all first_counts (pieces_of t p qs))
+  pieces_row qs =
+      row_both first_counts (pieces_a t p) (pieces_b t p ++ pieces_for t (counts_b t p) 0 qs)
       (row_from t root.A 0 (types_of t p.a) first_counts)
-      (subst (λ d. InRow (counts_a t p) (pieces_b t p ++ pieces_for t (counts_b t p) 0 places) d) refl
-      (row_both (counts_a t p) (pieces_b t p) (pieces_for t (counts_b t p) 0 places)
-      (row_from t root.B 0 (types_of t p.b) (counts_a t p)) (cells_row (counts_b t p) 0 places)))
+      (subst (λ d. InRow (counts_a t p) (pieces_b t p ++ pieces_for t (counts_b t p) 0 qs) d) refl
+      (row_both (counts_a t p) (pieces_b t p) (pieces_for t (counts_b t p) 0 qs)
+      (row_from t root.B 0 (types_of t p.b) (counts_a t p)) (cells_row (counts_b t p) 0 qs)))
+
+  whole_row : InRow first_counts pieces (counted_all first_counts pieces)
+  whole_row = pieces_row places
 
   cells_typed_row : (c : Counts) (n : ℕ) (qs : List Place) → AllByRecursion (IsDeclared t) qs
       → TypedRow t typed c (map type_at qs) (pieces_for t c n qs)
   cells_typed_row c n [] h = tt
   cells_typed_row c n (q ∷ qs) h =
       ((root.Cell n, refl), state_type q h.0, cells_typed_row (counted c (piece_at t c n q).variables) (n + 1) qs h.1)
+
+  -- the types of roots
+  parameter_is : (call j : ℕ) (u : Ty) → slice_get (types_of t call) j ≡ Some u
+      → type_of_part (parameter t call (0 + j)) ≡ Some u
+  parameter_is call j u at =
+      let same : 0 + j ≡ j = omega arith in
+      ap (λ i. type_of_part (parameter t call i)) same ∙ by (slice_get t.calls call) at
+    where
+      by : (o : Option Call) → slice_get (parameter_types o) j ≡ Some u → type_of_part (parameter_in o j) ≡ Some u
+      by (Some d) h = part_type d.params j u h
+      by None h = absurd (cc)
+
+  cell_is : (n : ℕ) (q : Place) → IsDeclared t q → slice_get places n ≡ Some q
+      → root_type t p (cells_of places) (root.Cell n) ≡ Some (type_at q)
+  cell_is n q d at =
+      ap (cell_type t) (slice_get-map without_key places n ∙ ap (option_map without_key) at)
+      ∙ ap typing.value_type d.1 ∙ sym (ap (λ o. Some (value_type o)) d.1)
+
+  in_front_of : (qs more : List Place) (j : ℕ) (q : Place) → slice_get qs j ≡ Some q → slice_get (qs ++ more) j ≡ Some q
+  in_front_of [] more j q at = absurd (cc)
+  in_front_of (r ∷ qs) more zero q at = at
+  in_front_of (r ∷ qs) more (suc j) q at = in_front_of qs more j q at
 
   -- numbers are near
   abbrev Near : Piece → Type 0
@@ -155,15 +196,38 @@ module _ (t : Tables) (typed : IsWellTyped t) (p : Pair) (a b : Call) (at_a : sl
       (all_both Near (pieces_b t p) _ (near_from root.B 0 (types_of t p.b) (counts_a t p))
       (near_cells (counts_b t p) 0 places))
 
-  module _ (v : Valuation) (is : IsValuation pieces v) where
+  -- the first of the cells, by whose symbols alone what follows is said
+  module _ (v : Valuation) (is : IsValuation pieces v) (first later : List Place) (whole : places ≡ first ++ later) where
+    abbrev has : Var → Bool
+    has = has_value t p first v
+
     abbrev pub here : Grounds
-    here = grounds_of pieces v Every
+    here = grounds_of (pieces_of t p places) (enum_of t p places) v (has_value t p first v)
+
+    abbrev after_ : List Piece
+    after_ = pieces_for t (counted_all (counts_b t p) (pieces_for t (counts_b t p) 0 first)) (0 + length first) later
+
+    -- what is made for the first cells comes first
+    made_first : pieces ≡ pieces_of t p first ++ after_
+    made_first =
+        ap (λ qs. pieces_a t p ++ (pieces_b t p ++ qs)) (ap (pieces_for t (counts_b t p) 0) whole
+        ∙ pieces_more t (counts_b t p) 0 first later)
+        ∙ ap (λ qs. pieces_a t p ++ qs)
+        (sym (append_assoc (pieces_b t p) (pieces_for t (counts_b t p) 0 first) after_))
+        ∙ sym (append_assoc (pieces_a t p) (pieces_b t p ++ pieces_for t (counts_b t p) 0 first) after_)
+
+    given_first : GivesAll (pieces_of t p first) v
+    given_first = gives_first (pieces_of t p first) after_ v (subst (λ qs. GivesAll qs v) made_first is.given)
+
+    first_row : InRow first_counts (pieces_of t p first) (counted_all first_counts (pieces_of t p first))
+    first_row = pieces_row first
 
     closed : IsClosed t here
-    closed o x at present has = every_has (vars_of x)
+    closed o x at present has_ = opened t p first v given_first first_row after_ o x
+        (ap (λ qs. slice_get (payloads_of qs) o) (sym made_first) ∙ at) present has_
 
     pub grounded : IsGround here
-    grounded = ground t pieces v Every typed whole_row near is
+    grounded = ground t pieces (enum_of t p places) v has typed whole_row near is
 
     given_parts : GivesAll (pieces_a t p) v × GivesAll (pieces_b t p) v
         × GivesAll (pieces_for t (counts_b t p) 0 places) v
@@ -171,43 +235,62 @@ module _ (t : Tables) (typed : IsWellTyped t) (p : Pair) (a b : Call) (at_a : sl
         let rest = gives_last (pieces_a t p) _ v is.given in
         (gives_first (pieces_a t p) _ v is.given, gives_first (pieces_b t p) _ v rest, gives_last (pieces_b t p) _ v rest)
 
-    have_terms : (qs : List Piece) → AllByRecursion (λ (q : Piece). AllByRecursion (λ x. Every x ≡ true) (vars_of q.term)) qs
-    have_terms [] = tt
-    have_terms (q ∷ qs) = (every_has (vars_of q.term), have_terms qs)
+    have : HaveTerms t p first v given_first (pieces_a t p) × HaveTerms t p first v given_first (pieces_b t p)
+        × HaveTerms t p first v given_first (pieces_for t (counts_b t p) 0 first)
+    have = have_parts t p first v given_first first_row
+
+    -- the types of the arguments and of what the cells hold
+    abbrev types : Root → Option Ty
+    types = root_type t p (cells_of places)
+
+    of_symbols : AreOfSymbols t pieces (enum_of t p places) v has types
+    of_symbols x s at = ap (symbol_enum t p places) at
 
     pub fit_a : AreAll (Fits t here) (map (λ q. q.ty) a.params) (map (value_of v) (args_a t p)) (args_a t p)
     fit_a =
         subst (λ us. AreAll (Fits t here) us (map (value_of v) (args_a t p)) (args_a t p)) (types_are a p.a at_a)
-        (row_fits t pieces v Every typed closed [] root.A 0 (types_of t p.a) first_counts
-        (pieces_b t p ++ pieces_for t (counts_b t p) 0 places) refl refl declared_a given_parts.0
-        (have_terms (pieces_a t p)))
+        (row_fits t pieces (enum_of t p places) v has typed closed types of_symbols [] root.A 0 (types_of t p.a)
+        first_counts (pieces_b t p ++ pieces_for t (counts_b t p) 0 places) refl refl declared_a
+        (λ j u at. parameter_is p.a j u at) given_parts.0 have.0)
 
     pub fit_b : AreAll (Fits t here) (map (λ q. q.ty) b.params) (map (value_of v) (args_b t p)) (args_b t p)
     fit_b =
         subst (λ us. AreAll (Fits t here) us (map (value_of v) (args_b t p)) (args_b t p)) (types_are b p.b at_b)
-        (row_fits t pieces v Every typed closed (pieces_a t p) root.B 0 (types_of t p.b) (counts_a t p)
-        (pieces_for t (counts_b t p) 0 places) refl refl declared_b given_parts.1
-        (have_terms (pieces_b t p)))
+        (row_fits t pieces (enum_of t p places) v has typed closed types of_symbols (pieces_a t p) root.B 0
+        (types_of t p.b) (counts_a t p) (pieces_for t (counts_b t p) 0 places) refl refl declared_b
+        (λ j u at. parameter_is p.b j u at) given_parts.1 have.1)
 
-    cells_fit : (done : List Piece) (c : Counts) (n : ℕ) (qs : List Place) → pieces ≡ done ++ pieces_for t c n qs
-        → c ≡ counted_all first_counts done → AllByRecursion (IsDeclared t) qs
-        → GivesAll (pieces_for t c n qs) v → TermsFit t here grounded c n qs
-    cells_fit done c n [] whole from d given = tt
-    cells_fit done c n (q ∷ qs) whole from d given =
+    cells_fit : (done : List Piece) (c : Counts) (n : ℕ) (qs more : List Place)
+        → pieces ≡ done ++ pieces_for t c n (qs ++ more) → c ≡ counted_all first_counts done
+        → ((j : ℕ) (q : Place) → slice_get qs j ≡ Some q → slice_get places (n + j) ≡ Some q)
+        → AllByRecursion (IsDeclared t) qs → GivesAll (pieces_for t c n (qs ++ more)) v
+        → HaveTerms t p first v given_first (pieces_for t c n qs) → TermsFit t here grounded c n qs
+    cells_fit done c n [] more is_ from at d given have_ = tt
+    cells_fit done c n (q ∷ qs) more is_ from at d given have_ =
+        let same : n + 0 ≡ n = omega arith in
         let piece = piece_at t c n q in (
-          one_fits t pieces v Every typed closed done (type_at q) (root.Cell n) c
-              (pieces_for t (counted c piece.variables) (n + 1) qs) whole from (state_type q d.0) given.0
-              (every_has (vars_of piece.term)),
-          cells_fit (done ++ piece ∷ []) (counted c piece.variables) (n + 1) qs
-              (whole ∙ sym (append_assoc done (piece ∷ []) (pieces_for t (counted c piece.variables) (n + 1) qs)))
-              (ap (λ e. counted e piece.variables) from ∙ sym (behind_both first_counts done (piece ∷ []))) d.1 given.1,
+          one_fits t pieces (enum_of t p places) v has typed closed types of_symbols done (type_at q) (root.Cell n) c
+              (pieces_for t (counted c piece.variables) (n + 1) (qs ++ more)) is_ from (state_type q d.0)
+              (cell_is n q d.0 (ap (slice_get places) (sym same) ∙ at 0 q refl)) given.0 have_.0,
+          cells_fit (done ++ piece ∷ []) (counted c piece.variables) (n + 1) qs more
+              (is_ ∙ sym (append_assoc done (piece ∷ []) (pieces_for t (counted c piece.variables) (n + 1) (qs ++ more))))
+              (ap (λ e. counted e piece.variables) from ∙ sym (behind_both first_counts done (piece ∷ [])))
+              (λ j r is. (let next : n + 1 + j ≡ n + suc j = omega arith in
+              ap (slice_get places) next ∙ at (suc j) r is)) d.1 given.1 have_.1,
         )
 
-    pub terms_fit : TermsFit t here grounded (counts_b t p) 0 places
+    declared_first : AllByRecursion (IsDeclared t) first
+    declared_first = all_front (IsDeclared t) first later (subst (AllByRecursion (IsDeclared t)) whole declared)
+
+    pub terms_fit : TermsFit t here grounded (counts_b t p) 0 first
     terms_fit =
-        cells_fit (pieces_a t p ++ pieces_b t p) (counts_b t p) 0 places
-        (sym (append_assoc (pieces_a t p) (pieces_b t p) (pieces_for t (counts_b t p) 0 places)))
-        (sym (behind_both first_counts (pieces_a t p) (pieces_b t p))) declared given_parts.2
+        cells_fit (pieces_a t p ++ pieces_b t p) (counts_b t p) 0 first later
+        (ap (λ qs. pieces_a t p ++ (pieces_b t p ++ pieces_for t (counts_b t p) 0 qs)) whole
+        ∙ sym (append_assoc (pieces_a t p) (pieces_b t p) (pieces_for t (counts_b t p) 0 (first ++ later))))
+        (sym (behind_both first_counts (pieces_a t p) (pieces_b t p)))
+        (λ j q at. (let same : 0 + j ≡ j = omega arith in
+        ap (slice_get places) same ∙ ap (λ qs. slice_get qs j) whole ∙ in_front_of first later j q at)) declared_first
+        (subst (λ qs. GivesAll (pieces_for t (counts_b t p) 0 qs) v) whole given_parts.2) have.2
 
     -- the story stands beside the tale
     pub stands : Beside t here (pair_tale t p (args_a t p) (args_b t p) (payloads_of pieces))
@@ -243,6 +326,9 @@ module _ (t : Tables) (typed : IsWellTyped t) (p : Pair) (a b : Call) (at_a : sl
             (sym (ap (λ s. is_value_in t s (o c)) at) ∙ look c are.0)
         by false same = least_is_value t typed (type_at q) (state_type q d.0)
 
+  pub all_places : places ≡ places ++ []
+  all_places = sym (append-nil places)
+
   looks_typed : (s : Store) → IsStateOf t s → IsLook t (looks s)
   looks_typed s is c cell = look_up_typed t s is c (looks s c) cell (looked t s is c cell)
 
@@ -250,14 +336,14 @@ module _ (t : Tables) (typed : IsWellTyped t) (p : Pair) (a b : Call) (at_a : sl
   no_values = valuation (λ x. 0) (λ x. pos 0) (λ x. 0) (λ x. 0) (λ x. value.None)
 
   -- for any values of the arguments and of the cells
-  record Filled (va vb xs : List Value) : Type 0 where
-    v : Valuation
-    is : IsValuation pieces v
-    a_is : map (value_of v) (args_a t p) ≡ va
-    b_is : map (value_of v) (args_b t p) ≡ vb
-    cells_are : map (value_of v) (terms_of (pieces_for t (counts_b t p) 0 places)) ≡ xs
+  pub record Filled (va vb xs : List Value) : Type 0 where
+    pub v : Valuation
+    pub is : IsValuation pieces v
+    pub a_is : map (value_of v) (args_a t p) ≡ va
+    pub b_is : map (value_of v) (args_b t p) ≡ vb
+    pub cells_are : map (value_of v) (terms_of (pieces_for t (counts_b t p) 0 places)) ≡ xs
 
-  fill : (va vb xs : List Value) → are_values_of t (types_of t p.a) va ≡ true
+  pub fill : (va vb xs : List Value) → are_values_of t (types_of t p.a) va ≡ true
       → are_values_of t (types_of t p.b) vb ≡ true → are_values_of t (map type_at places) xs ≡ true → Filled va vb xs
   unfolding no_values
   fill va vb xs ta tb tc =
@@ -287,6 +373,17 @@ module _ (t : Tables) (typed : IsWellTyped t) (p : Pair) (a b : Call) (at_a : sl
         cells_are = three.3;
       }
 
+  -- by the symbols of all cells
+  abbrev pub here_all : (v : Valuation) → IsValuation pieces v → Grounds
+  here_all v is = here v is places [] all_places
+
+  pub grounded_all : (v : Valuation) (is : IsValuation pieces v) → IsGround (here_all v is)
+  grounded_all v is = grounded v is places [] all_places
+
+  pub fit_all : (v : Valuation) (is : IsValuation pieces v)
+      → TermsFit t (here_all v is) (grounded_all v is) (counts_b t p) 0 places
+  fit_all v is = terms_fit v is places [] all_places
+
   -- from a world whose path begins with a node's answers
   module _ (answers : List ℕ) (facts : List Fact) (next : Next) (is_node : IsNode t p answers facts places next) where
     abbrev pub tale : PairTale
@@ -306,7 +403,7 @@ module _ (t : Tables) (typed : IsWellTyped t) (p : Pair) (a b : Call) (at_a : sl
 
     given_from : (v : Valuation) (is : IsValuation pieces v) (o : Look) (c : Counts) (n : ℕ) (qs : List Place)
         (cs : List CellName) → map (value_of v) (terms_of (pieces_for t c n qs)) ≡ picks o qs cs
-        → Given t (here v is) (grounded v is) c n qs o cs
+        → Given t (here_all v is) (grounded_all v is) c n qs o cs
     unfolding picks
     given_from v is o c n [] cs h = tt
     given_from v is o c n (q ∷ qs) [] h = tt
@@ -338,11 +435,11 @@ module _ (t : Tables) (typed : IsWellTyped t) (p : Pair) (a b : Call) (at_a : sl
         (cells_typed t o (looks_typed w.init world.init) typed p w.a.vals w.b.vals world.a world.b)) in
         let same : story_of t p (map (value_of f.v) (args_a t p)) (map (value_of f.v) (args_b t p)) ≡ s =
         ap (λ vs. story_of t p vs (map (value_of f.v) (args_b t p))) f.a_is ∙ ap (story_of t p w.a.vals) f.b_is in
-        let both = goes_along t (here f.v f.is) (grounded f.v f.is) tale s
-        (subst (Beside t (here f.v f.is) tale) same (stands f.v f.is)) o (counts_b t p) 0 answers rest
+        let both = goes_along t (here_all f.v f.is) (grounded_all f.v f.is) tale s
+        (subst (Beside t (here_all f.v f.is) tale) same (stands f.v f.is places [] all_places)) o (counts_b t p) 0 answers rest
         (sym (path_told t typed p w world) ∙ begins)
-        (subst (TermsFit t (here f.v f.is) (grounded f.v f.is) (counts_b t p) 0) (sym places_are) (terms_fit f.v f.is))
-        (subst (λ qs. Given t (here f.v f.is) (grounded f.v f.is) (counts_b t p) 0 qs o cs) (sym places_are)
+        (subst (TermsFit t (here_all f.v f.is) (grounded_all f.v f.is) (counts_b t p) 0) (sym places_are) (fit_all f.v f.is))
+        (subst (λ qs. Given t (here_all f.v f.is) (grounded_all f.v f.is) (counts_b t p) 0 qs o cs) (sym places_are)
         (given_from f.v f.is o (counts_b t p) 0 places cs f.cells_are)) in
         record {
           valuation = f.v;

@@ -35,6 +35,11 @@ abbrev pub is_of_sort : Ty-F Ty → Option ℕ → Bool
 is_of_sort (Ty-F.Sort s) (Some r) = s == r
 is_of_sort _ _ = false
 
+-- an enum, by a variable's enum if it has one
+abbrev pub is_of_enum : Ty-F Ty → Option ℕ → Bool
+is_of_enum (Ty-F.Enum e) (Some d) = e == d
+is_of_enum _ _ = false
+
 -- as a value's test: of which types, for options below which number, and of which terms
 abbrev pub Fitting : Type 0
 Fitting = Ty → ℕ → Term → Bool
@@ -64,8 +69,14 @@ module _ (t : Tables) (g : Grounds) where
   is_tag (tag.Const e i) = true
   is_tag (tag.Var x) = ltb x.0 g.tags && g.has (OfTag x.0)
 
+  -- a variable of a variant is of the type's enum
+  abbrev pub is_tag_of : Ty → Tag → Bool
+  is_tag_of u (tag.Const e i) = true
+  is_tag_of u (tag.Var x) = is_of_enum (out-Ty u) (g.enums x.0)
+
   abbrev pub is_choice : Ty → ℕ → Option Tag → Bool
-  is_choice u n (Some a) = (tag_under g.valuation.tag a == n) && (is_variant_of t (out-Ty u) n && is_tag a)
+  is_choice u n (Some a) =
+      (tag_under g.valuation.tag a == n) && (is_variant_of t (out-Ty u) n && (is_tag_of u a && is_tag a))
   is_choice u n None = false
 
   -- field by field

@@ -1,12 +1,12 @@
 -- What a right leaf of a pair is, and a right node at which a question is open.
-use Rattle.std.specs.Prelude.{◌≡◌, ◌↔◌, ℕ, Bool, true, List, [], ◌∷◌, ◌++◌, map, IsTrue}
+use Rattle.std.specs.Prelude.{◌≡◌, ◌↔◌, ℕ, List, [], ◌∷◌, ◌++◌, map, IsTrue}
 use Rattle.std.specs.List.{AllByRecursion}
 use Rattle.cm_model.specs.Tables.{Tables}
 use Rattle.cm_model.specs.declared.pair.Pair.{Pair}
 use Rattle.cm_term.specs.declared.question.Question.{Question}
 use Rattle.cm_term.specs.declared.question.Fact.{Fact}
 use Rattle.cm_term.specs.declared.term.Term.{Term}
-use Rattle.cm_term.specs.Valuation.{Valuation, Var}
+use Rattle.cm_term.specs.Valuation.{Valuation}
 use Rattle.cm_term.specs.Questions.{outcome_under, AreEqual}
 use Rattle.cm_eval.specs.declared.log.CellName.{CellName}
 use Rattle.cm_eval.specs.declared.state.Except.{Except}
@@ -23,7 +23,9 @@ use Rattle.cm_world.specs.OpenPrefix.{BeginsAPath}
 use Rattle.cm_beside.specs.declared.verdict.Verdict.{Verdict}
 use Rattle.cm_beside.specs.declared.verdict.Verdict.TheVariants as verdict
 use Rattle.cm_beside.specs.Grounds.{Grounds}
-use Rattle.cm_beside.specs.Places.{ArePlaces}
+use Rattle.cm_beside.specs.Places.{IsPlace}
+use Rattle.cm_beside.specs.Seen.{has_value}
+use Rattle.cm_beside.specs.Enums.{enum_of}
 use Rattle.cm_beside.specs.Related.{is_question}
 use Rattle.cm_beside.specs.Beside.{IsGood}
 use Rattle.cm_beside.specs.Nodes.{Next, node, node_at, pieces_of, IsValuation, Satisfies, Agrees, WorldSatisfies, grounds_of}
@@ -57,9 +59,11 @@ abbrev pub AreNeeded : Tables → Grounds → Verdict → Type 0
 AreNeeded t g verdict.Never = Unit {0}
 AreNeeded t g (verdict.If es) = AllByRecursion (IsGood t g) es
 
--- whichever symbols have values
-abbrev pub every : Var → Bool
-every x = true
+-- each place's key has a value of its type, by the arguments and the cells before it alone
+abbrev pub AreKeyed : Tables → Pair → Valuation → List Place → Type 0
+AreKeyed t p v places =
+    (first : List Place) (q : Place) (more : List Place) → places ≡ first ++ q ∷ more
+    → IsPlace t (grounds_of (pieces_of t p places) (enum_of t p places) v (has_value t p first v)) (cell_under v q) q
 
 module _ (t : Tables) (p : Pair) where
   pub record IsRightLeaf (path : List ℕ) (facts : List Fact) (places : List Place) (w : Verdict) : Type 0 where
@@ -75,11 +79,11 @@ module _ (t : Tables) (p : Pair) where
     -- each valuation that satisfies the facts is that of such a world
     pub valued : (v : Valuation) → IsValuation (pieces_of t p places) v → Satisfies v facts
         → (u : World) × IsValuationOf t p v places u
-    -- the verdict's equalities could be asked, and the cells' keys have values of their types
+    -- the verdict's equalities could be asked, their symbols and those of the cells' keys have values
     pub needed : (v : Valuation) → IsValuation (pieces_of t p places) v → Satisfies v facts
-        → AreNeeded t (grounds_of (pieces_of t p places) v every) w
+        → AreNeeded t (grounds_of (pieces_of t p places) (enum_of t p places) v (has_value t p places v)) w
     pub keyed : (v : Valuation) → IsValuation (pieces_of t p places) v → Satisfies v facts
-        → ArePlaces t (grounds_of (pieces_of t p places) v every) (map (cell_under v) places) places
+        → AreKeyed t p v places
 
   -- the same of a beginning of a path at which a question is open
   pub record IsRightNode (front : List ℕ) (facts : List Fact) (places : List Place) (q : Question) : Type 0 where
@@ -95,11 +99,11 @@ module _ (t : Tables) (p : Pair) where
         → (more : List CellName) × (touched_cells t p u ≡ map (cell_under v) places ++ more)
     pub valued : (v : Valuation) → IsValuation (pieces_of t p places) v → Satisfies v facts
         → (u : World) × IsValuationOf t p v places u
-    -- the question is on variables that are there, and its numbers are small
+    -- the question is on variables whose symbols have values, as have those of the cells' keys, and its numbers are small
     pub asked : (v : Valuation) → IsValuation (pieces_of t p places) v → Satisfies v facts
-        → IsTrue (is_question t (grounds_of (pieces_of t p places) v every) q)
+        → IsTrue (is_question t (grounds_of (pieces_of t p places) (enum_of t p places) v (has_value t p places v)) q)
     pub keyed : (v : Valuation) → IsValuation (pieces_of t p places) v → Satisfies v facts
-        → ArePlaces t (grounds_of (pieces_of t p places) v every) (map (cell_under v) places) places
+        → AreKeyed t p v places
     -- its possible outcomes are those with which some path goes on
     pub covers : (d : ℕ) → BeginsAPath t p (front ++ d ∷ [])
         ↔ ((v : Valuation) × IsValuation (pieces_of t p places) v × Satisfies v facts × (outcome_under v q ≡ d))

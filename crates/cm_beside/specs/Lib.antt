@@ -4,5 +4,7 @@ pub mod Related
 pub mod Places
 pub mod Beside
 pub mod Nodes
+pub mod Seen
+pub mod Enums
 pub mod Leaf
 pub mod Standing

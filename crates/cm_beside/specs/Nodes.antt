@@ -136,10 +136,11 @@ pub record WorldSatisfies (t : Tables) (p : Pair) (w : World) (facts : List Fact
   pub agrees : Agrees t p valuation w places
   pub satisfies : Satisfies valuation facts
 
--- what a run stands on where these were made
-abbrev pub grounds_of : List Piece → Valuation → (Var → Bool) → Grounds
-grounds_of pieces v has = record {
+-- what a run stands on where these were made, with the enum of each variable of a variant
+abbrev pub grounds_of : List Piece → (ℕ → Option ℕ) → Valuation → (Var → Bool) → Grounds
+grounds_of pieces enums v has = record {
   sorts = sorts_of pieces;
+  enums = enums;
   numbers = (counted_all first_counts pieces).numbers;
   tags = (counted_all first_counts pieces).tags;
   options = (counted_all first_counts pieces).options;

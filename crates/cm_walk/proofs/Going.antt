@@ -30,9 +30,11 @@ use Rattle.cm_forks.specs.Paths.{Begins, Covers}
 use Rattle.cm_forks.specs.Paths as paths
 use Rattle.cm_beside.specs.declared.verdict.Verdict.{Verdict}
 use Rattle.cm_beside.specs.Beside.{PairTale}
-use Rattle.cm_beside.specs.Leaf.{IsRightLeaf, IsRightNode, TouchesMore, every}
+use Rattle.cm_beside.specs.Leaf.{IsRightLeaf, IsRightNode, TouchesMore}
 use Rattle.cm_beside.specs.Nodes.{pieces_of, IsNode, IsValuation, Satisfies, Asking, Ended, Node, after, fact, node, node_at}
 use Rattle.cm_beside.specs.Nodes.{grounds_of}
+use Rattle.cm_beside.specs.Seen.{has_value}
+use Rattle.cm_beside.specs.Enums.{enum_of}
 use Rattle.cm_beside.specs.Standing.{StandsAt, SaysAll, beyond}
 use Rattle.cm_beside.proofs.Standing as standing
 use Rattle.cm_beside.proofs.Standing.{says_added, says_forced, says_still}
@@ -146,9 +148,11 @@ module _ (t : Tables) (p : Pair) where
     askable law some sorts q asked =
         let v = satisfied some in
         let count = h.knows.counts in
-        can_be_asked t (grounds_of (pieces_of t p x.cells.places) v.0 every) x.known
-        (sorts ∙ ap sorts_of h.knows.made) (ap (λ (k : Counts). k.numbers) count) (ap (λ (k : Counts). k.tags) count)
-        (ap (λ (k : Counts). k.options) count) q ((right_node law q asked).asked v.0 v.1 v.2)
+        let places = x.cells.places in
+        let ground = grounds_of (pieces_of t p places) (enum_of t p places) v.0 (has_value t p places v.0) in
+        can_be_asked t ground x.known (sorts ∙ ap sorts_of h.knows.made) (ap (λ (k : Counts). k.numbers) count)
+        (ap (λ (k : Counts). k.tags) count) (ap (λ (k : Counts). k.options) count) q
+        ((right_node law q asked).asked v.0 v.1 v.2)
 
     pub opens : NodesAreRight → IsSatisfiable x.known → x.known.classes.sorts ≡ sorts_of x.known.pieces
         → (q : Question) → x.open ≡ Some q → IsAskedAt t q x.chain.stage x.cells → IsOpen t p x q
