@@ -1,0 +1,10 @@
+pub mod Finding
+pub mod Keys
+pub mod Literals
+pub mod Named
+pub mod Numbers
+pub mod Paths
+pub mod Readings
+pub mod Saying
+pub mod Seeing
+pub mod Symbols
