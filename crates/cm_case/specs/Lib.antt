@@ -1,0 +1,4 @@
+pub mod Right
+pub mod Report
+pub mod Growing
+pub mod Named
