@@ -1,6 +1,8 @@
 //! The report of a pair.
 
-ghost use Rattle.std.specs.Prelude.{◌≡◌, ◌<◌, ◌+◌, ℕ, None, length, IfOk};
+ghost use Rattle.std.specs.Prelude.{◌≡◌, ◌<◌, ◌≤◌, ◌+◌, ℕ, None, length, IfOk, IsTrue};
+ghost use Rattle.cm_cond.specs.declared.report.Condition.{Condition};
+ghost use Rattle.cm_cond.specs.Form.{is_report, path_limit};
 ghost use Rattle.cm_cond.specs.declared.report.PairReport.TheVariants as report;
 ghost use Rattle.cm_forks.specs.Counts.{AtLeast};
 ghost use Rattle.cm_world.specs.Over.{IsOverBy};
@@ -11,6 +13,8 @@ ghost use Rattle.cm_analyze.specs.inner.SoFar.{AreSoFar};
 ghost use Rattle.cm_analyze.specs.declared.report.Came.TheVariants as came;
 
 use crate::case::case_of;
+use cm_beside::nodes_are_right;
+use cm_case::right_reports_are_spelled;
 use cm_cond::{Case, Condition, PairReport};
 use cm_ctx::Steps;
 use cm_forks::Fault;
@@ -34,9 +38,13 @@ pub fn analyze_pair<L: Ledger>(
     requires a { pair.a < length model.now.calls }
     requires b { pair.b < length model.now.calls }
     ensures right { IfOk result (λ report. IsRightReport model.now pair limit report) }
+    // it is spelled as reports are
+    ensures well_formed { limit ≤ path_limit → IfOk result (λ report. IsTrue (is_report model.now pair report)) }
     // the counter rises by no more than the pair's open prefixes
     ensures steps { (n : ℕ) × (steps.new ≡ steps.old + n) × AtLeast (IsOpenPrefix model.now pair) n }
 {
+    nodes_are_right(model, pair);
+    right_reports_are_spelled(model, pair);
     let mut walk = Walk::new(alloc, model, pair, limit)?;
     report_of(alloc, Subject { model, pair }, &mut walk, limit, steps)
 }
@@ -68,6 +76,7 @@ fn report_of<L: Ledger>(
     requires last { walk.old.last ≡ None }
     requires given { walk.old.given ≡ 0 }
     ensures right { IfOk result (λ report. IsRightReport subject.entry.model.now subject.entry.pair limit report) }
+    ensures few { IfOk result (λ it. (n : ℕ) (k : Condition) → it ≡ report.Cases n k → n ≤ limit) }
     ensures steps { steps.new + walk.old.added ≡ steps.old + walk.new.added }
     ensures are_open { AtLeast (IsOpenPrefix subject.entry.model.now subject.entry.pair) walk.old.added
         → AtLeast (IsOpenPrefix subject.entry.model.now subject.entry.pair) walk.new.added }

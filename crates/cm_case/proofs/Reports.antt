@@ -1,14 +1,23 @@
 -- A report grows by one path after another.
 use Rattle.std.proofs.Common.{◌≡◌, ◌⊎◌, inl, inr, ℕ, zero, suc, List, [], ◌∷◌, ◌++◌, length, slice_get, Some}
 use Rattle.std.proofs.Common.{refl, sym, ap, ◌∙◌, subst}
-use Rattle.std.specs.List.{AllByRecursion}
+use Rattle.std.specs.List.{AllByRecursion, list_all}
 use Rattle.cm_model.specs.Tables.{Tables}
 use Rattle.cm_model.specs.declared.pair.Pair.{Pair}
 use Rattle.cm_world.specs.Over.{IsPath}
+use Rattle.cm_world.specs.declared.world.World.{World}
+use Rattle.cm_world.specs.World.{IsWorldOf}
+use Rattle.cm_world.specs.Path.{path_of_world}
 use Rattle.cm_cond.specs.declared.report.Case.{Case}
+use Rattle.cm_cond.specs.declared.report.Condition.{Condition}
+use Rattle.cm_cond.specs.declared.report.PairReport.{PairReport}
+use Rattle.cm_cond.specs.declared.report.PairReport.TheVariants as report
+use Rattle.cm_cond.specs.Form.{is_case, is_report, path_limit}
+use Rattle.std.proofs.lemmas.Bool.{and_from, le-leb}
+use Rattle.std.proofs.Common.{◌≤◌, leb, true, arith}
 use Rattle.cm_forks.specs.Paths.{After, IsNext, IsPast}
 use Rattle.cm_case.specs.Right.{CommutesOn, IsRightCase}
-use Rattle.cm_case.specs.Report.{Ascend, AreThePaths, AreTheCases}
+use Rattle.cm_case.specs.Report.{Ascend, AreThePaths, AreTheCases, IsRightReport}
 use Rattle.cm_case.specs.Growing.{Going, last_of}
 
 abbrev Path : Type 0
@@ -102,3 +111,28 @@ module _ (t : Tables) (p : Pair) where
       | inr after ↦ absurd (past path is after)
     ];
   }
+
+  -- right cases are spelled as reports are
+  cases_spelled : (paths : List Path) (cases : List Case) → AreTheCases t p paths cases
+      → list_all (is_case t p) cases ≡ true
+  cases_spelled [] [] h = refl
+  cases_spelled [] (c ∷ cases) h = absurd h
+  cases_spelled (q ∷ paths) cases (inl h) =
+      subst (λ cs. list_all (is_case t p) cs ≡ true) (sym h.2)
+      (and_from (is_case t p h.0) (list_all (is_case t p) h.1) h.3.well_formed (cases_spelled paths h.1 h.4))
+  cases_spelled (q ∷ paths) cases (inr h) = cases_spelled paths cases h.1
+
+  some_found : (paths : List Path) (i : ℕ) (q : Path) → slice_get paths i ≡ Some q → 1 ≤ length paths
+  some_found [] i q at = absurd (cc)
+  some_found (r ∷ paths) i q at = omega arith
+
+  -- and so are right reports of a pair that has a world, where the limit is one that words may give
+  pub report_spelled : (limit : ℕ) (r : PairReport) → (u : World) → IsWorldOf t p u → IsRightReport t p limit r
+      → ((n : ℕ) (k : Condition) → r ≡ report.Cases n k → n ≤ path_limit) → is_report t p r ≡ true
+  report_spelled limit (report.Over x) u world right few = refl
+  report_spelled limit (report.Cases n k) u world right few =
+      let found = right.2.all (path_of_world t p u) (record { world = u; is_world = world; has = refl }) in
+      let some = some_found right.1 found.0 (path_of_world t p u) found.1 in
+      and_from _ (list_all (is_case t p) k.cases)
+      (and_from (leb 1 n) (leb n path_limit) (le-leb 1 n (subst (λ m. 1 ≤ m) right.3 some))
+      (le-leb n path_limit (few n k refl))) (cases_spelled right.1 k.cases right.4)

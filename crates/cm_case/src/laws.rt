@@ -1,6 +1,6 @@
 //! What leaves of a walk come to.
 
-ghost use Rattle.std.specs.Prelude.{◌≡◌, ◌≤◌, ◌++◌, List, length};
+ghost use Rattle.std.specs.Prelude.{◌≡◌, ◌≤◌, ◌++◌, ℕ, List, length, IsTrue};
 ghost use Rattle.std.specs.List.{AllByRecursion};
 ghost use Rattle.cm_model.specs.Limits.{cell_limit};
 ghost use Rattle.cm_term.specs.declared.question.Equal.{Equal};
@@ -9,7 +9,13 @@ ghost use Rattle.cm_term.specs.Valuation.{Valuation};
 ghost use Rattle.cm_term.specs.Questions.{AreEqual};
 ghost use Rattle.cm_cells.specs.CellTable.{Place};
 ghost use Rattle.cm_ctx.specs.Contexts.{IsSatisfiable, IsQuestion, Satisfies, sorts_of};
+ghost use Rattle.cm_world.specs.declared.world.World.{World};
+ghost use Rattle.cm_world.specs.World.{IsWorldOf};
 ghost use Rattle.cm_cond.specs.declared.report.Case.{Case};
+ghost use Rattle.cm_cond.specs.declared.report.Condition.{Condition};
+ghost use Rattle.cm_cond.specs.declared.report.PairReport.{PairReport};
+ghost use Rattle.cm_cond.specs.declared.report.PairReport.TheVariants as report;
+ghost use Rattle.cm_cond.specs.Form.{is_report, path_limit};
 ghost use Rattle.cm_beside.specs.declared.verdict.Verdict.TheVariants as verdict;
 ghost use Rattle.cm_walk.specs.declared.leaf.Leaf.{Leaf};
 ghost use Rattle.cm_walk.specs.Leaves.{IsLeafOf};
@@ -17,6 +23,7 @@ ghost use Rattle.cm_pick.specs.Picking.{ArePicked, fact_of};
 ghost use Rattle.cm_name.specs.Naming.{KeyHasSymbols};
 ghost use Rattle.cm_case.specs.Right.{CommutesOn, IsRightCase};
 ghost use Rattle.cm_case.specs.Named.{IsNamedAfter, IsSayable};
+ghost use Rattle.cm_case.specs.Report.{IsRightReport};
 
 use cm_model::{Model, Pair};
 
@@ -41,5 +48,16 @@ pub fn cases_are_right(model: &Model, pair: Pair)
         → CommutesOn model.now pair x.path → ⊥ }
 {
     model.well_typed();
+    let _ = pair;
+}
+
+/// Tells a proof that a right report of a pair that has a world is spelled as reports are, where it has no more paths
+/// than reports may have.
+pub fn right_reports_are_spelled(model: &Model, pair: Pair)
+    ensures spelled { (limit : ℕ) (r : PairReport) (u : World) → IsWorldOf model.now pair u
+        → IsRightReport model.now pair limit r
+        → ((n : ℕ) (k : Condition) → r ≡ report.Cases n k → n ≤ path_limit) → IsTrue (is_report model.now pair r) }
+{
+    let _ = model.sorts();
     let _ = pair;
 }

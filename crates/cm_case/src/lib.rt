@@ -3,4 +3,4 @@
 
 mod laws;
 
-pub use laws::cases_are_right;
+pub use laws::{cases_are_right, right_reports_are_spelled};
